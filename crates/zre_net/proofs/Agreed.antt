@@ -4,7 +4,7 @@ use Rattle.std.specs.Prelude.{Result, Ok, Err, IfOk, OnOk}
 use Rattle.std.specs.List.{AllByRecursion}
 use Rattle.std.proofs.lemmas.Bool.{and_parts}
 use Rattle.zre_net.specs.declared.moves.Move.{Move}
-use Rattle.zre_net.specs.Agreement.{IsAgreed}
+use Rattle.zre_net.specs.Agreement.{HandsInOrder, IsAgreed}
 use Rattle.zre_net.specs.Answer.{bad_move_after, bad_move}
 use Rattle.zre_net.specs.Comes.{with_move, history_after, history}
 use Rattle.zre_net.specs.Grammar.{may_come, has_room, is_good}
@@ -34,9 +34,19 @@ all_front : (before later : List Move) → AllByRecursion MayStart (before ++ la
 all_front [] later a = tt
 all_front (m ∷ before) later a = (a.0, all_front before later a.1)
 
+-- what connections carry, after each part of the schedule
+carries_before : (s : List Move) → AllByRecursion MayStart s → bad_move s ≡ None → (before later : List Move) → s ≡ before ++ later → Carries (history before)
+carries_before s f good before later is =
+    carries_after 2 before [] begins (all_front before later (subst (AllByRecursion MayStart) is f)) (front_good 2 before later [] (subst (λ ms. bad_move ms ≡ None) is good))
+
+pub hand_in_order : (s : List Move) → AllByRecursion MayStart s → bad_move s ≡ None → HandsInOrder s
+hand_in_order s f good before later is x c e =
+    let k = (carries_before s f good before later is).each x c e in
+    record { in_order = k.octets; elsewhere = k.elsewhere }
+
 pub are_agreed : (s : List Move) → AllByRecursion MayStart s → bad_move s ≡ None → IsAgreed s
 are_agreed s f good before later is near =
-    all_agree (history before) (carries_after 2 before [] begins (all_front before later (subst (AllByRecursion MayStart) is f)) (front_good 2 before later [] (subst (λ ms. bad_move ms ≡ None) is good))) near
+    all_agree (history before) (carries_before s f good before later is) near
 
 pub ran_agreed : {T E : Type 0} (r : Result T E) (s : List Move) → AllByRecursion MayStart s → (P : T → Type 0) → IfOk r (λ x. (bad_move s ≡ None) × P x) → OnOk r (IsAgreed s)
 ran_agreed (Ok x) s f P p = are_agreed s f p.0

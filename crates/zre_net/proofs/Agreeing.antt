@@ -41,13 +41,13 @@ use Rattle.zre_journal.proofs.Truly.{spoke_truly, are_readable}
 use Rattle.zre_journal.proofs.Windows.{keeps_ledgers}
 use Rattle.zre_net.specs.declared.moves.Part.{Part}
 use Rattle.zre_net.specs.declared.moves.Part.TheVariants as part
-use Rattle.zre_net.specs.Agreement.{number_in, carried, ledger_of, IsWithinWindow, IsShown, Agrees}
+use Rattle.zre_net.specs.Agreement.{number_in, carried, ledger_of, IsWithinWindow, IsShown, Agrees, streamed}
 use Rattle.zre_net.specs.Carried.{spelling, pending}
 use Rattle.zre_net.specs.Grammar.{can_carry}
 use Rattle.zre_net.specs.History.{Incarnation, Happening, IsKnown, journal, chronicle_of}
 use Rattle.zre_net.specs.Lists.{nth}
 use Rattle.zre_net.specs.Numbers.{Route, CarriedConn, conns, queued_on}
-use Rattle.zre_net.proofs.Carrying.{streamed, Carries}
+use Rattle.zre_net.proofs.Carrying.{Carries}
 use Rattle.zre_net.proofs.Journals.{same_who}
 use Rattle.zre_net.proofs.Listing.{some_one, all_at}
 

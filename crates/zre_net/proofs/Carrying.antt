@@ -1,6 +1,5 @@
 -- What connections carry: of each, the octets that have come and those that wait are all that it was made to carry.
 use Rattle.std.proofs.Common.{◌≡◌, ◌⊎◌, ℕ, ◌+◌, ◌^◌, ◌≤◌, ◌<◌, Bool, true, false, cond, eqb, ltb, leb, List, [], ◌∷◌, ◌++◌, length, Option, Some, None, is_some, refl, sym, ap, ◌∙◌, subst, inl, inr, arith, eqb-true, eq-eqb, true≢false, append_assoc, append-nil}
-use Rattle.std.specs.Prelude.{flat_map}
 use Rattle.std.specs.Option.{option_map_or}
 use Rattle.std.specs.List.{filter_map, AllByRecursion}
 use Rattle.std.proofs.lemmas.Bool.{le-leb, ne_eqb}
@@ -22,7 +21,7 @@ use Rattle.zre_net.specs.declared.moves.Move.{Move}
 use Rattle.zre_net.specs.declared.moves.Move.TheVariants as move
 use Rattle.zre_net.specs.declared.moves.Part.{Part}
 use Rattle.zre_net.specs.declared.moves.Part.TheVariants as part
-use Rattle.zre_net.specs.Agreement.{carried}
+use Rattle.zre_net.specs.Agreement.{carried, streamed}
 use Rattle.zre_net.specs.Carried.{spelling, pending}
 use Rattle.zre_net.specs.Comes.{turn_of}
 use Rattle.zre_net.specs.Grammar.{can_carry}
@@ -36,10 +35,6 @@ use Rattle.zre_net.proofs.Opened.{IsOld, bytes_now, still_old, opened_now, opene
 use Rattle.zre_net.proofs.Staying.{starting, after_start, known_started, number_is, starting_known}
 
 -- ---- what is so of connections
-
--- all octets of some parts
-abbrev pub streamed : Route → List Happening → List Part → List ℕ
-streamed s H ps = flat_map (spelling s H) ps
 
 pub record IsCarried (H : List Happening) (x : ℕ) (c : CarriedConn) : Type 0 where
   pub number : c.number ≡ x

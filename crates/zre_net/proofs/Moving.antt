@@ -14,7 +14,7 @@ use Rattle.zre_journal.proofs.Quiet.{is_of}
 use Rattle.zre_net.specs.declared.moves.Move.{Move}
 use Rattle.zre_net.specs.declared.moves.Move.TheVariants as move
 use Rattle.zre_net.specs.declared.moves.Part.{Part}
-use Rattle.zre_net.specs.Agreement.{carried}
+use Rattle.zre_net.specs.Agreement.{carried, streamed}
 use Rattle.zre_net.specs.Carried.{spelling, appended, pending}
 use Rattle.zre_net.specs.Comes.{turn_of, with_move, at_broadcast}
 use Rattle.zre_net.specs.Grammar.{agrees, can_carry, is_there, may_come, passes}
@@ -25,7 +25,7 @@ use Rattle.zre_net.proofs.Journals.{chronicle_now, other_chronicle}
 use Rattle.zre_net.proofs.Listing.{some_one, nth_past, nth_more, nth_last, nth_cases, all_at}
 use Rattle.zre_net.proofs.Opened.{IsOld, bytes_same, new_old}
 use Rattle.zre_net.proofs.Pending.{no_pending}
-use Rattle.zre_net.proofs.Carrying.{streamed, streamed_last, all_sayable, same_stream, not_of, IsCarried, Carries, carried_on, unopened_on, owners_on, silent_on, comes_on, nothing_comes, MayStart, starts_on}
+use Rattle.zre_net.proofs.Carrying.{streamed_last, all_sayable, same_stream, not_of, IsCarried, Carries, carried_on, unopened_on, owners_on, silent_on, comes_on, nothing_comes, MayStart, starts_on}
 
 -- ---- a connection is made to carry one part more
 

@@ -1,11 +1,13 @@
 -- Network agreement: what a node shows of another is what that one was, by its own account, as it queued the last
 -- message that was processed.
-use Rattle.std.specs.Prelude.{◌≡◌, ℕ, ◌≤◌, List, [], ◌++◌, Option, Some, None, if◌then◌else◌, nat_eq, length, take}
+use Rattle.std.specs.Prelude.{◌≡◌, ℕ, ◌≤◌, true, false, List, [], ◌++◌, Option, Some, None, if◌then◌else◌, nat_eq}
+use Rattle.std.specs.Prelude.{length, take, flat_map}
 use Rattle.std.specs.Option.{option_map_or}
 use Rattle.std.specs.List.{filter_map, AllByRecursion}
 use Rattle.zre_peer.specs.Runs.{told}
 use Rattle.zre_journal.specs.Chronicle.{Mark}
 use Rattle.zre_journal.specs.Connections.{runs}
+use Rattle.zre_journal.specs.Heard.{bytes, was_opened}
 use Rattle.zre_journal.specs.Ledger.{Ledger, IsNearWhereItComes}
 use Rattle.zre_journal.specs.Peers.{Life, life, counted, view}
 use Rattle.zre_journal.specs.Speaking.{moment}
@@ -16,12 +18,13 @@ use Rattle.zre_net.specs.declared.moves.Move.{Move}
 use Rattle.zre_net.specs.declared.moves.Move.TheVariants as move
 use Rattle.zre_net.specs.declared.moves.Part.{Part}
 use Rattle.zre_net.specs.declared.moves.Part.TheVariants as part
+use Rattle.zre_net.specs.Carried.{spelling, pending}
 use Rattle.zre_net.specs.Lists.{nth}
 use Rattle.zre_net.specs.History.{Incarnation, Happening, Happens, IsKnown, gathered, journal, chronicle_of}
-use Rattle.zre_net.specs.Numbers.{CarriedConn, conns, queued_on}
+use Rattle.zre_net.specs.Numbers.{Route, CarriedConn, conns, queued_on}
 use Rattle.zre_net.specs.Comes.{history}
 
--- ---- the window
+-- ---- what is carried
 
 abbrev pub part_on : ℕ → Happening → Option Part
 part_on x (Happens (move.Carry y p) t) = if nat_eq x y then Some p else None
@@ -30,6 +33,29 @@ part_on x _ = None
 -- the parts that connection x was made to carry, in order
 abbrev pub carried : ℕ → List Happening → List Part
 carried x H = gathered (part_on x) H
+
+-- ---- what comes on a connection
+
+-- all octets of some parts of a link
+abbrev pub streamed : Route → List Happening → List Part → List ℕ
+streamed s H parts = flat_map (spelling s H) parts
+
+-- Connection x of the schedule is this one. The octets that have come on it at its node, where it opened, and those that
+-- it has yet to hand in, joined, are the spellings of the parts that it was made to carry: what has come is a front of
+-- them. Nothing comes on it at another node.
+pub record IsHandedIn (H : List Happening) (x : ℕ) (c : CarriedConn) : Type 0 where
+  pub in_order : was_opened x (chronicle_of c.to H) ≡ true
+      → bytes x (chronicle_of c.to H) ++ pending x H ≡ streamed c.along H (carried x H)
+  pub elsewhere : (b : Incarnation) → IsKnown H b → nat_eq b.number c.to.number ≡ false
+      → was_opened x (chronicle_of b H) ≡ false
+
+-- so it is of each connection, after each part of the schedule
+abbrev pub HandsInOrder : List Move → Type 0
+HandsInOrder s =
+    (before later : List Move) → s ≡ before ++ later
+    → (x : ℕ) (c : CarriedConn) → nth x (conns (history before)) ≡ Some c → IsHandedIn (history before) x c
+
+-- ---- the messages that come
 
 abbrev pub number_in : Part → Option ℕ
 number_in (part.Message k) = Some k
@@ -42,6 +68,8 @@ ledger_of H = record {
   sent = λ x. option_map_or (λ (c : CarriedConn). queued_on c.along H) (nth x (conns H)) [];
   picks = λ x. filter_map number_in (carried x H);
 }
+
+-- ---- the window
 
 -- At each node, each message that comes on a connection that runs a peer lies fewer than 65536 places of its link from
 -- the one that is due.

@@ -7,7 +7,7 @@ ghost use Rattle.zre_values.specs.declared.settings.Settings.{Settings as Config
 ghost use Rattle.zre_journal.specs.Cutting.{piece};
 ghost use Rattle.zre_node.specs.declared.node.Node.{Node};
 ghost use Rattle.zre_node.specs.Journal.{StandsFor};
-ghost use Rattle.zre_net.specs.Agreement.{CarryFew, IsWithinWindow, IsAgreed};
+ghost use Rattle.zre_net.specs.Agreement.{CarryFew, HandsInOrder, IsWithinWindow, IsAgreed};
 ghost use Rattle.zre_net.specs.Answer.{bad_move};
 ghost use Rattle.zre_net.specs.Example.{IsExample};
 ghost use Rattle.zre_net.specs.History.{Happening};
@@ -46,6 +46,12 @@ pub fn a_restart_computes()
 pub fn a_cut_piece_is_a_whole_one()
     ensures { (g : Config) (J : List Entry) (at c : ℕ) (a b : List ℕ) (n : Node) →
         StandsFor g (J ++ piece at c a ∷ piece at c b ∷ []) n → StandsFor g (J ++ piece at c (a ++ b) ∷ []) n }
+{}
+
+/// The pieces that come on a connection, joined, are a front of the spellings of what it was made to carry, in that
+/// order and each once: what is left of them is what it has yet to hand in. So it is after each part of a schedule.
+pub fn pieces_are_a_front_of_what_is_carried()
+    ensures { (lines : List (List ℕ)) → bad_move (moves_of lines) ≡ None → HandsInOrder (moves_of lines) }
 {}
 
 /// Network agreement: in a schedule within the window, what a node shows of another that one of its connections runs is

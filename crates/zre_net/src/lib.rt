@@ -14,7 +14,7 @@ pub use fault::{BadSchedule, ScheduleFault};
 pub use laws::{
     a_cut_piece_is_a_whole_one, a_restart_computes, an_agreement_computes, an_example_computes,
     few_messages_are_within_the_window, links_only_grow, long_texts_are_refused_early, nodes_agree,
-    schedules_are_short,
+    pieces_are_a_front_of_what_is_carried, schedules_are_short,
 };
 pub use moves::{Move, Moves, Part};
 pub use reading::{Schedule, read_schedule};
