@@ -22,7 +22,7 @@ use Rattle.zre_journal.specs.Peers.{Life, lives, life, is_entered, view}
 use Rattle.zre_journal.specs.Happens.{has_stopped}
 use Rattle.zre_journal.specs.Config.{CanBe}
 use Rattle.zre_journal.proofs.Known.{each_known}
-use Rattle.zre_journal.proofs.Listed.{All-map}
+use Rattle.zre_journal.proofs.NumberedLists.{All-map}
 use Rattle.zre_tables.specs.declared.connection.Connection.{Connection}
 use Rattle.zre_tables.specs.declared.peer.Peer.{Peer}
 use Rattle.zre_node.specs.declared.tables.Tables.{Tables}

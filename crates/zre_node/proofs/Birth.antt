@@ -13,8 +13,8 @@ use Rattle.zre_journal.specs.Chronicle.{Mark, HearsBeacon}
 use Rattle.zre_journal.specs.Heard.{clock}
 use Rattle.zre_journal.specs.Peers.{Life, lives, births, counted}
 use Rattle.zre_journal.specs.Pushes.{hello, birth}
-use Rattle.zre_journal.proofs.Kept.{born, newborn, born-proper, HearsBeacon-proper}
-use Rattle.zre_journal.proofs.Listed.{eqb-comm, found_passes}
+use Rattle.zre_journal.proofs.ProperKept.{born, newborn, born-proper, HearsBeacon-proper}
+use Rattle.zre_journal.proofs.NumberedLists.{eqb-comm, found_passes}
 use Rattle.zre_tables.specs.declared.peer.Peer.{Peer}
 use Rattle.zre_node.specs.declared.tables.Tables.{Tables}
 use Rattle.zre_node.specs.declared.effects.Effects.{Effects}

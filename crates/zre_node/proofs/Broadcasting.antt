@@ -14,16 +14,16 @@ use Rattle.zre_journal.specs.Peers.{Life, lives, life, runner, counted}
 use Rattle.zre_journal.specs.Links.{line, put_on, taken, unsent}
 use Rattle.zre_journal.specs.Commands.{has_group, is_member}
 use Rattle.zre_journal.specs.Pushes.{push, push_all}
-use Rattle.zre_journal.proofs.Joined.{after-append}
+use Rattle.zre_journal.proofs.JoinedEntries.{after-append}
 use Rattle.zre_journal.proofs.Known.{each_known}
-use Rattle.zre_journal.proofs.Listed.{All-kept, Apart-kept}
+use Rattle.zre_journal.proofs.NumberedLists.{All-kept, Apart-kept}
 use Rattle.zre_tables.specs.declared.peer.Peer.{Peer}
 use Rattle.zre_node.specs.declared.tables.Tables.{Tables}
 use Rattle.zre_tables.specs.Views.{lists_group, row_in}
 use Rattle.zre_tables.specs.Rows.{numbers_of}
 use Rattle.zre_tables.specs.Runs.{HasRun}
 use Rattle.zre_node.specs.Stands.{Holds, AreKnown, IsPeer}
-use Rattle.zre_node.proofs.Many.{still_known}
+use Rattle.zre_node.proofs.MarksAfterMarks.{still_known}
 use Rattle.zre_node.proofs.Pushing.{Alike, alike_after, same_push}
 use Rattle.zre_node.proofs.Stopping.{link_list, known_from}
 use Rattle.zre_tables.proofs.Finding.{numbers_are}

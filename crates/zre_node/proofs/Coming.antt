@@ -18,8 +18,8 @@ use Rattle.zre_journal.specs.Connections.{open_ones, is_open, is_live, is_ignore
 use Rattle.zre_journal.specs.Peers.{Life, lives}
 use Rattle.zre_journal.specs.Links.{line, is_linked, replies, reply_of, taken}
 use Rattle.zre_journal.specs.Arrivals.{at_places}
-use Rattle.zre_journal.proofs.Kept.{Comes-proper}
-use Rattle.zre_journal.proofs.Listed.{eqb-comm, found_passes, any_has}
+use Rattle.zre_journal.proofs.ProperKept.{Comes-proper}
+use Rattle.zre_journal.proofs.NumberedLists.{eqb-comm, found_passes, any_has}
 use Rattle.zre_tables.specs.declared.connection.Connection.{Connection}
 use Rattle.zre_node.specs.declared.tables.Tables.{Tables}
 use Rattle.zre_tables.specs.Holding.{reader_at}

@@ -23,8 +23,8 @@ use Rattle.zre_journal.specs.Peers.{Life, lives, life, life_of, runner, counted,
 use Rattle.zre_journal.specs.Links.{groups, status}
 use Rattle.zre_journal.specs.Commands.{has_group, is_member, is_too_big, at_join, at_leave, at_whisper, at_shout}
 use Rattle.zre_journal.specs.Pushes.{push, push_all}
-use Rattle.zre_journal.proofs.Kept.{Joins-proper, Leaves-proper, Refuses-proper}
-use Rattle.zre_journal.proofs.Listed.{All-append, All-without}
+use Rattle.zre_journal.proofs.ProperKept.{Joins-proper, Leaves-proper, Refuses-proper}
+use Rattle.zre_journal.proofs.NumberedLists.{All-append, All-without}
 use Rattle.zre_tables.specs.declared.peer.Peer.{Peer}
 use Rattle.zre_node.specs.declared.tables.Tables.{Tables}
 use Rattle.zre_node.specs.declared.effects.Effects.{Effects}
@@ -32,7 +32,7 @@ use Rattle.zre_tables.specs.Searches.{link_among}
 use Rattle.zre_node.specs.Stands.{Holds, Did, IsPeer, is_quiet}
 use Rattle.zre_node.proofs.Broadcasting.{pushed_after}
 use Rattle.zre_node.proofs.Datagram.{link_found, its_life, no_life}
-use Rattle.zre_node.proofs.Many.{did_as, did_then, silent_did}
+use Rattle.zre_node.proofs.MarksAfterMarks.{did_as, did_then, silent_did}
 use Rattle.zre_node.proofs.Opening.{with_conns}
 use Rattle.zre_node.proofs.Parting.{its_row, no_row}
 use Rattle.zre_node.proofs.Starting.{its_own_life}

@@ -21,8 +21,8 @@ use Rattle.zre_journal.specs.Connections.{runs}
 use Rattle.zre_journal.specs.Peers.{Life, lives, life, runner, counted}
 use Rattle.zre_journal.specs.Arrivals.{at_later, answer_to}
 use Rattle.zre_journal.specs.Pushes.{push}
-use Rattle.zre_journal.proofs.Kept.{run_is, Counts-proper, run_known}
-use Rattle.zre_journal.proofs.Listed.{eqb-comm, found_passes}
+use Rattle.zre_journal.proofs.ProperKept.{run_is, Counts-proper, run_known}
+use Rattle.zre_journal.proofs.NumberedLists.{eqb-comm, found_passes}
 use Rattle.zre_tables.specs.declared.peer.Peer.{Peer}
 use Rattle.zre_node.specs.declared.tables.Tables.{Tables}
 use Rattle.zre_node.specs.declared.effects.Effects.{Effects}
@@ -32,7 +32,7 @@ use Rattle.zre_node.specs.Stands.{Holds, Nearly, Did, IsPeer, IsBut, IsLeaving, 
 use Rattle.zre_tables.proofs.Entries.{changed}
 use Rattle.zre_node.proofs.Parting.{its_row, keeps_with, leaves}
 use Rattle.zre_journal.specs.Told.{told}
-use Rattle.zre_node.proofs.Many.{did_by}
+use Rattle.zre_node.proofs.MarksAfterMarks.{did_by}
 use Rattle.zre_node.proofs.Keeping.{keeps_as}
 
 -- ---- a peer that is run has told something

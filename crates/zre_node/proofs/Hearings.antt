@@ -10,12 +10,12 @@ use Rattle.zre_values.specs.declared.settings.Settings.{Settings as Config}
 use Rattle.zre_journal.specs.Chronicle.{Mark, after, in_turn}
 use Rattle.zre_journal.specs.Connections.{is_live}
 use Rattle.zre_journal.specs.Arrivals.{at_place}
-use Rattle.zre_journal.proofs.Joined.{in_turn-append}
+use Rattle.zre_journal.proofs.JoinedEntries.{in_turn-append}
 use Rattle.zre_node.specs.declared.tables.Tables.{Tables}
 use Rattle.zre_node.specs.declared.effects.Effects.{Effects}
 use Rattle.zre_node.specs.Said.{at_item}
 use Rattle.zre_node.specs.Stands.{Did}
-use Rattle.zre_node.proofs.Many.{did_as, did_then}
+use Rattle.zre_node.proofs.MarksAfterMarks.{did_as, did_then}
 
 -- what an item brings, as one place of what is said
 placed : (g : Config) (c : ℕ) (a : Option Arrival) (K : List Mark) → in_turn (at_place g c) (map (λ (x : Arrival). Arrived x) (option_to_list a)) K ≡ cond (is_live c K) (at_item g c a K) []

@@ -8,7 +8,7 @@ pub mod Copying
 pub mod Counting
 pub mod Datagram
 pub mod Ending
-pub mod Many
+pub mod MarksAfterMarks
 pub mod Faulting
 pub mod Hearings
 pub mod Linking

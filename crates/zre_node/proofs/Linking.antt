@@ -19,8 +19,8 @@ use Rattle.zre_journal.specs.Peers.{Life, lives, life, births}
 use Rattle.zre_journal.specs.Happens.{has_stopped, at_input}
 use Rattle.zre_journal.specs.LinkEntries.{at_linked, at_reply, at_unlinked, at_took}
 use Rattle.zre_journal.specs.Proper.{IsProper}
-use Rattle.zre_journal.proofs.Kept.{known_lives, Links-proper, Sends-proper}
-use Rattle.zre_journal.proofs.Listed.{eqb-comm}
+use Rattle.zre_journal.proofs.ProperKept.{known_lives, Links-proper, Sends-proper}
+use Rattle.zre_journal.proofs.NumberedLists.{eqb-comm}
 use Rattle.zre_node.specs.declared.effects.Effects.{Effects}
 use Rattle.zre_tables.specs.declared.peer.Peer.{Peer}
 use Rattle.zre_node.specs.declared.tables.Tables.{Tables}
@@ -29,7 +29,7 @@ use Rattle.zre_node.specs.Links.{Notes}
 use Rattle.zre_tables.specs.Tabled.{Tabled}
 use Rattle.zre_node.specs.Stands.{Holds, Keeps, Did, IsPeer, IsConn, is_quiet, link_of_life}
 use Rattle.zre_tables.proofs.Entries.{Agree, changed}
-use Rattle.zre_node.proofs.Many.{or-nil, idle_did, silent_did}
+use Rattle.zre_node.proofs.MarksAfterMarks.{or-nil, idle_did, silent_did}
 use Rattle.zre_node.proofs.Parting.{PeerRow, Found, Missing, peer_row, its_row}
 use Rattle.zre_node.proofs.Pushing.{row_link, written_back}
 use Rattle.zre_node.proofs.Keeping.{keeps_as}

@@ -18,9 +18,9 @@ use Rattle.zre_journal.specs.Held.{conn_kept, replies_kept, kept}
 use Rattle.zre_journal.specs.Links.{line, is_linked, replies, taken}
 use Rattle.zre_journal.specs.Peers.{Life, life}
 use Rattle.zre_journal.specs.Proper.{IsProper}
-use Rattle.zre_journal.proofs.Kept.{Comes-proper}
-use Rattle.zre_journal.proofs.Joined.{continues}
-use Rattle.zre_journal.proofs.Lowered.{input_lowers, quiet_keeps, piece_moves, piece_lost, piece_part, reply_moves, reply_lost, reply_part}
+use Rattle.zre_journal.proofs.ProperKept.{Comes-proper}
+use Rattle.zre_journal.proofs.JoinedEntries.{continues}
+use Rattle.zre_journal.proofs.ReadersKeepLess.{input_lowers, quiet_keeps, piece_moves, piece_lost, piece_part, reply_moves, reply_lost, reply_part}
 use Rattle.zre_tables.specs.Holding.{reader_at}
 use Rattle.std.specs.BTreeMap.{is_at}
 use Rattle.std.specs.Map.{lookup}
@@ -87,8 +87,8 @@ quiet_other (input.Reply l o) p r = absurd (r l o refl)
 quiet_other _ p r = refl
 
 -- after a stop nothing is kept
-pub rests_lowers : (g : Config) (e : Entry) (H : List Mark) (t : Tables) → Rests g H t → kept g (with_entry g e H) ≤ kept g H
-rests_lowers g e H t r =
+pub idle_lowers : (g : Config) (e : Entry) (H : List Mark) (t : Tables) → Rests g H t → kept g (with_entry g e H) ≤ kept g H
+idle_lowers g e H t r =
     let m : marks g e H ≡ [] = ap (λ b. cond b [] (at_input g e.input H (Comes e ∷ H))) r.stopped in
     let none : kept g (Comes e ∷ H) ≡ 0 = rw (r.none_open, r.none_known) refl in
     subst (λ ks. kept g (after ks (Comes e ∷ H)) ≤ kept g H) (sym m) (omega (arith, none))

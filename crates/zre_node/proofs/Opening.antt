@@ -16,7 +16,7 @@ use Rattle.zre_journal.specs.Links.{groups, status}
 use Rattle.zre_journal.specs.Proper.{IsProper}
 use Rattle.zre_journal.specs.Happens.{has_stopped}
 use Rattle.zre_journal.specs.Arrivals.{at_opened, at_shut, end_of_run}
-use Rattle.zre_journal.proofs.Kept.{Opens-proper, TurnsAway-proper, Closes-proper, IsShut-proper, ClosesAtStop-proper}
+use Rattle.zre_journal.proofs.ProperKept.{Opens-proper, TurnsAway-proper, Closes-proper, IsShut-proper, ClosesAtStop-proper}
 use Rattle.zre_tables.specs.declared.connection.Connection.{Connection}
 use Rattle.zre_node.specs.declared.tables.Tables.{Tables}
 use Rattle.zre_tables.specs.Tabled.{Tabled}

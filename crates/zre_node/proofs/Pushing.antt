@@ -13,8 +13,8 @@ use Rattle.zre_journal.specs.Chronicle.{Mark, Puts, Sends, Ends, after, followed
 use Rattle.zre_journal.specs.Peers.{Life, lives, life}
 use Rattle.zre_journal.specs.Links.{line, put_on, is_linked, replies, taken, unsent}
 use Rattle.zre_journal.specs.Pushes.{push}
-use Rattle.zre_journal.proofs.Kept.{known_lives, Puts-proper}
-use Rattle.zre_journal.proofs.Listed.{eqb-comm, found_passes}
+use Rattle.zre_journal.proofs.ProperKept.{known_lives, Puts-proper}
+use Rattle.zre_journal.proofs.NumberedLists.{eqb-comm, found_passes}
 use Rattle.zre_tables.specs.declared.peer.Peer.{Peer}
 use Rattle.zre_node.specs.declared.tables.Tables.{Tables}
 use Rattle.zre_node.specs.declared.effects.Effects.{Effects}

@@ -22,8 +22,8 @@ use Rattle.zre_journal.specs.LinkEntries.{cause_by_reply, end_by, answers, at_re
 use Rattle.zre_journal.specs.Links.{line, is_linked, replies, newly_pinged, taken, unsent}
 use Rattle.zre_journal.specs.Peers.{Life, lives, life, births, active, runner, counted}
 use Rattle.zre_journal.specs.Told.{told}
-use Rattle.zre_journal.proofs.Kept.{known_lives, Comes-proper, PutsPong-proper}
-use Rattle.zre_journal.proofs.Listed.{eqb-comm}
+use Rattle.zre_journal.proofs.ProperKept.{known_lives, Comes-proper, PutsPong-proper}
+use Rattle.zre_journal.proofs.NumberedLists.{eqb-comm}
 use Rattle.zre_node.specs.declared.effects.Effects.{Effects}
 use Rattle.zre_tables.specs.declared.peer.Peer.{Peer}
 use Rattle.zre_node.specs.declared.tables.Tables.{Tables}
@@ -34,7 +34,7 @@ use Rattle.zre_node.specs.Stands.{Holds, Keeps, Did, IsPeer, IsKept, IsConn, lin
 use Rattle.zre_node.proofs.Coming.{other_conn, no_replies}
 use Rattle.zre_tables.proofs.Entries.{Agree, retold, retold_of}
 use Rattle.zre_node.proofs.Linking.{key, its, link_is, its_known, relinked}
-use Rattle.zre_node.proofs.Many.{or-nil}
+use Rattle.zre_node.proofs.MarksAfterMarks.{or-nil}
 use Rattle.zre_node.proofs.Pushing.{row_link}
 use Rattle.zre_node.proofs.Keeping.{keeps_as}
 

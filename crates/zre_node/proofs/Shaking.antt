@@ -6,8 +6,8 @@ use Rattle.zre_values.specs.declared.peer_id.PeerId.{PeerId}
 use Rattle.zre_values.specs.declared.settings.Settings.{Settings as Config}
 use Rattle.zre_journal.specs.Chronicle.{Mark, Greets, Shakes, AnswersPing}
 use Rattle.zre_journal.specs.Connections.{open_ones, is_open, identity, is_same, other_with}
-use Rattle.zre_journal.proofs.Kept.{Greets-proper, AnswersPing-proper, Shakes-proper}
-use Rattle.zre_journal.proofs.Listed.{eqb-comm, found_passes, found_there}
+use Rattle.zre_journal.proofs.ProperKept.{Greets-proper, AnswersPing-proper, Shakes-proper}
+use Rattle.zre_journal.proofs.NumberedLists.{eqb-comm, found_passes, found_there}
 use Rattle.zre_tables.specs.declared.connection.Connection.{Connection}
 use Rattle.zre_node.specs.declared.tables.Tables.{Tables}
 use Rattle.zre_tables.specs.Tabled.{Tabled}

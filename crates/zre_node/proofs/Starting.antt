@@ -26,8 +26,8 @@ use Rattle.zre_journal.specs.Chronicle.{Mark, Starts, Ignores, after, ever}
 use Rattle.zre_journal.specs.Connections.{open_ones, is_open, is_live, is_ignored, was_used, identity, runs, started, refuses, has_ended}
 use Rattle.zre_journal.specs.Peers.{Life, lives, life, life_of, births, runner, counted}
 use Rattle.zre_journal.specs.Proper.{IsProper}
-use Rattle.zre_journal.proofs.Kept.{known_lives, newborn, runner_runs, Starts-proper, Ignores-proper}
-use Rattle.zre_journal.proofs.Listed.{eqb-comm, found_passes, All-map}
+use Rattle.zre_journal.proofs.ProperKept.{known_lives, newborn, runner_runs, Starts-proper, Ignores-proper}
+use Rattle.zre_journal.proofs.NumberedLists.{eqb-comm, found_passes, All-map}
 use Rattle.zre_journal.proofs.Known.{known_of, id_of}
 use Rattle.zre_tables.specs.declared.connection.Connection.{Connection}
 use Rattle.zre_tables.specs.declared.peer.Peer.{Peer}

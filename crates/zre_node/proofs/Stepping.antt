@@ -10,7 +10,7 @@ use Rattle.zre_journal.specs.Events.{chronicle, events, acts, events_at}
 use Rattle.zre_journal.specs.Happens.{marks, has_stopped}
 use Rattle.zre_journal.specs.Ledger.{KeepsLedgers}
 use Rattle.zre_journal.specs.Told.{told}
-use Rattle.zre_journal.proofs.Joined.{continues}
+use Rattle.zre_journal.proofs.JoinedEntries.{continues}
 use Rattle.zre_journal.proofs.Windows.{keeps_ledgers}
 use Rattle.zre_node.specs.declared.effects.Effects.{Effects}
 use Rattle.zre_node.specs.declared.effects.Step.{Step}

@@ -15,8 +15,8 @@ use Rattle.zre_journal.specs.Proper.{Apart}
 use Rattle.zre_journal.specs.Commands.{at_stop}
 use Rattle.zre_journal.specs.Told.{told}
 use Rattle.zre_journal.specs.Done.{done}
-use Rattle.zre_journal.proofs.Joined.{after-append, told-append, done-append}
-use Rattle.zre_journal.proofs.Kept.{run_known}
+use Rattle.zre_journal.proofs.JoinedEntries.{after-append, told-append, done-append}
+use Rattle.zre_journal.proofs.ProperKept.{run_known}
 use Rattle.zre_journal.proofs.Known.{end_all, each_known}
 use Rattle.zre_journal.proofs.Stopping.{stop-is, none_known, none_open, drops_lives}
 use Rattle.zre_node.specs.declared.tables.Tables.{Tables}
@@ -24,7 +24,7 @@ use Rattle.zre_node.specs.declared.effects.Effects.{Effects}
 use Rattle.zre_tables.specs.Tabled.{Tabled}
 use Rattle.zre_node.specs.Stands.{Holds, Did, Rests, Stopped, AreKnown, RunNone, IsPeer, IsConn}
 use Rattle.zre_tables.proofs.Entries.{keys_are}
-use Rattle.zre_node.proofs.Many.{did_then}
+use Rattle.zre_node.proofs.MarksAfterMarks.{did_then}
 
 pub map-map : {A B C : Type 0} (f : A → B) (g : B → C) (xs : List A) → map g (map f xs) ≡ map (λ x. g (f x)) xs
 map-map f g [] = refl

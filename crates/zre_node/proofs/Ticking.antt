@@ -30,10 +30,10 @@ use Rattle.zre_journal.specs.Peers.{Life, lives, life, runner, counted, view}
 use Rattle.zre_journal.specs.Proper.{Apart}
 use Rattle.zre_journal.specs.Told.{told, becoming_evasive}
 use Rattle.zre_journal.proofs.Idle.{AreNoStarts, ends_start_none, none_and_none}
-use Rattle.zre_journal.proofs.Joined.{after-append}
-use Rattle.zre_journal.proofs.Kept.{IsEvasive-proper, SendsBeacon-proper}
+use Rattle.zre_journal.proofs.JoinedEntries.{after-append}
+use Rattle.zre_journal.proofs.ProperKept.{IsEvasive-proper, SendsBeacon-proper}
 use Rattle.zre_journal.proofs.Known.{ends_keep, life_stays, end_all}
-use Rattle.zre_journal.proofs.Listed.{found_passes}
+use Rattle.zre_journal.proofs.NumberedLists.{found_passes}
 use Rattle.zre_journal.proofs.Ticks.{expiring, wavering, stale, expired, expiring_apart, wavering_apart, wavering_known, expiring_known as are_known, wavering_entered as are_entered, stale_idle as are_idle}
 use Rattle.zre_tables.specs.declared.connection.Connection.{Connection}
 use Rattle.zre_node.specs.declared.effects.Effects.{Effects}
@@ -47,7 +47,7 @@ use Rattle.zre_node.specs.Ticks.{probes, IsEntered, AreEntered, AreIdle}
 use Rattle.zre_tables.specs.Runs.{HasRun}
 use Rattle.zre_node.specs.Stands.{Holds, Did, IsPeer, IsConn, AreKnown, is_quiet}
 use Rattle.zre_tables.proofs.Finding.{numbers_are}
-use Rattle.zre_node.proofs.Many.{did_as, did_by, did_then}
+use Rattle.zre_node.proofs.MarksAfterMarks.{did_as, did_by, did_then}
 use Rattle.zre_node.proofs.Opening.{with_conns}
 use Rattle.zre_node.proofs.Parting.{its_row, shows}
 use Rattle.zre_node.proofs.Pushing.{Alike, alike_after}

@@ -37,7 +37,7 @@ impl Step {
     }
 }
 
-/// The same while an entry is taken, with the links on which something was put.
+/// What is told and asked for while an entry is taken, with the links on which something was put.
 #[derive(Drop)]
 pub struct Effects {
     /// What the user is told so far.

@@ -94,7 +94,8 @@ impl Node {
         }
     }
 
-    /// The same, with what it tells and asks for in place of what stands in a step, whose lists serve again and again.
+    /// Takes an entry as `step` does. What it tells and asks for replaces what stands in a step, whose lists serve
+    /// again and again.
     pub fn step_into(&mut self, entry: Entry, step: &mut Step) -> Result<(), OutOfMemory>
         // What the journal has more with the entry, and its ledgers.
         ensures steps { (g : ConfigValue) (J : List EntryValue) → StandsFor g J self.old →
@@ -297,7 +298,7 @@ impl Node {
         self.step_lent(piece, step, &mut steps)
     }
 
-    // The same for a caller that counts nothing.
+    // `step_into_counted` with a counter of its own, for a caller that counts nothing.
     fn step_from<L: Ledger>(
         &mut self,
         entry: Entry,

@@ -6,7 +6,7 @@ use Rattle.std.specs.List.Sorted.{IsStrictlySortedBy}
 use Rattle.std.specs.Map.{keys_of}
 use Rattle.std.specs.Option.{option_map_or}
 use Rattle.std.proofs.lemmas.Bool.{ltb-false, le-leb}
-use Rattle.zre_journal.proofs.Listed.{eqb-comm}
+use Rattle.zre_journal.proofs.NumberedLists.{eqb-comm}
 use Rattle.zre_timers.specs.Moments.{Moments, NoneAfter, moment_of, moment_of-empty, moment_of-insert, moment_of-remove, NoneAfter-empty, NoneAfter-insert, NoneAfter-remove}
 use Rattle.zre_tables.specs.Agreement.{AreHeard, Agree}
 use Rattle.zre_tables.specs.Rows.{row_at, with_row}
@@ -188,6 +188,6 @@ pub rests : (top back latest : ℕ) (o : Option ℕ) → back ≡ top - latest �
 rests top back latest None e some p = absurd cc
 rests top back latest (Some m) e some p = le-leb back (top - m) (omega (arith, e, p))
 
-pub rests_by : (o : Option ℕ) (active top latest : ℕ) → IfSome o (λ m. m ≤ active) → IfSome o (λ m. m ≤ top) → ((m : ℕ) → m ≤ active → m ≤ top → m ≤ latest) → IfSome o (λ m. m ≤ latest)
-rests_by None active top latest p q f = tt
-rests_by (Some m) active top latest p q f = f m p q
+pub idle_by : (o : Option ℕ) (active top latest : ℕ) → IfSome o (λ m. m ≤ active) → IfSome o (λ m. m ≤ top) → ((m : ℕ) → m ≤ active → m ≤ top → m ≤ latest) → IfSome o (λ m. m ≤ latest)
+idle_by None active top latest p q f = tt
+idle_by (Some m) active top latest p q f = f m p q

@@ -10,5 +10,5 @@ pub mod Naming
 pub mod Offering
 pub mod Placed
 pub mod Relinking
-pub mod Resting
+pub mod IdleConnections
 pub mod Walking

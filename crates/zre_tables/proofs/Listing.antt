@@ -11,7 +11,7 @@ use Rattle.std.specs.Map.{keys_of}
 use Rattle.std.specs.Option.{option_map_or}
 use Rattle.std.specs.Ordering.{is_eq}
 use Rattle.std.specs.declared.cmp.Ordering.TheVariants.{Less}
-use Rattle.zre_journal.proofs.Listed.{eqb-comm}
+use Rattle.zre_journal.proofs.NumberedLists.{eqb-comm}
 use Rattle.zre_values.specs.Keys.{IsRisingListOf, same_rising_list}
 use Rattle.zre_tables.specs.Rows.{row_at, passes_at, numbers_of}
 use Rattle.zre_tables.proofs.Entries.{at-eqb}

@@ -14,7 +14,7 @@ use Rattle.zre_values.specs.Keys.{IsRisingListOf, same_rising_list}
 use Rattle.zre_outside.specs.declared.act.Act.{Act}
 use Rattle.zre_outside.specs.declared.act.Act.TheVariants as act
 use Rattle.zre_link.specs.Link.{has_front}
-use Rattle.zre_journal.proofs.Listed.{eqb-comm}
+use Rattle.zre_journal.proofs.NumberedLists.{eqb-comm}
 use Rattle.zre_tables.specs.declared.peer.Peer.{Peer}
 use Rattle.zre_tables.specs.Rows.{passes_at, numbers_of}
 use Rattle.zre_tables.specs.Searches.{offered_among, row_offered}

@@ -15,7 +15,7 @@ use Rattle.std.specs.Option.{MatchOption}
 use Rattle.std.specs.Ordering.{eq_by_cmp, is_eq, match_ordering, ordering_index}
 use Rattle.std.specs.declared.cmp.Ordering.{Ordering}
 use Rattle.std.specs.declared.cmp.Ordering.TheVariants.{Less, Equal, Greater}
-use Rattle.zre_journal.proofs.Listed.{eqb-comm}
+use Rattle.zre_journal.proofs.NumberedLists.{eqb-comm}
 use Rattle.zre_tables.specs.Rows.{row_at, with_row, without_row}
 use Rattle.zre_tables.proofs.Entries.{at-eqb}
 
@@ -75,14 +75,14 @@ module _ {V : Type 0} where
   rest : (e : ℕ × V) (es : List (ℕ × V)) (n i : ℕ) → Parts (e ∷ es) n (suc i) → Parts es n i
   rest e es n i p = record { low = λ k d l. p.low (suc k) d (omega (arith, l)); high = λ k d l h. p.high (suc k) d (omega (arith, l)) (omega (arith, h)) }
 
-  rest_high : (e : ℕ × V) (es : List (ℕ × V)) (n : ℕ) → Parts (e ∷ es) n zero → Parts es n zero
-  rest_high e es n p = record { low = λ k d l. absurd (omega (arith, l)); high = λ k d l h. p.high (suc k) d (omega arith) (omega (arith, h)) }
+  idle_high : (e : ℕ × V) (es : List (ℕ × V)) (n : ℕ) → Parts (e ∷ es) n zero → Parts es n zero
+  idle_high e es n p = record { low = λ k d l. absurd (omega (arith, l)); high = λ k d l h. p.high (suc k) d (omega arith) (omega (arith, h)) }
 
   pub absent : (es : List (ℕ × V)) (n i : ℕ) → Parts es n i → row_at n es ≡ None
   absent [] n i p = refl
   absent (e ∷ es) n zero p =
       let far : n < e.0 = above e.0 n (p.high 0 e (omega arith) (omega arith)) in
-      rw (at-eqb n e.0 ∙ ne_eqb n e.0 (λ q. omega (arith, far))) (absent es n zero (rest_high e es n p))
+      rw (at-eqb n e.0 ∙ ne_eqb n e.0 (λ q. omega (arith, far))) (absent es n zero (idle_high e es n p))
   absent (e ∷ es) n (suc i) p =
       let far : e.0 < n = less e.0 n (p.low 0 e (omega arith)) in
       rw (at-eqb n e.0 ∙ ne_eqb n e.0 (λ q. omega (arith, far))) (absent es n i (rest e es n i p))

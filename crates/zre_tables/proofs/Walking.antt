@@ -112,9 +112,9 @@ none_below n (e ∷ es) a =
     rw off (none_below n es a.1)
 
 -- and so do those after it
-pub rest_left : (all : List (ℕ × Peer)) (e : ℕ × Peer) (es : List (ℕ × Peer)) → Left all (e ∷ es) → Left all es
+pub idle_left : (all : List (ℕ × Peer)) (e : ℕ × Peer) (es : List (ℕ × Peer)) → Left all (e ∷ es) → Left all es
 unfolding IsStrictlySortedBy
-rest_left all e es left = (left.0.1, λ n x at. by n x at (eqb n e.0) refl)
+idle_left all e es left = (left.0.1, λ n x at. by n x at (eqb n e.0) refl)
   where
     by : (n : ℕ) (x : Peer) → Some x ≡ row_at n es → (b : Bool) → eqb n e.0 ≡ b → Some x ≡ row_at n all
     by n x at false q = let off : is_at (nat_cmp n) e.0 ≡ false = at-eqb n e.0 ∙ q in left.1 n x (rw off at)

@@ -1,7 +1,7 @@
 pub mod Agreement
 pub mod Holding
 pub mod Probing
-pub mod Resting
+pub mod IdleConnections
 pub mod Rows
 pub mod Runs
 pub mod Searches

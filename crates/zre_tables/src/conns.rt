@@ -8,7 +8,7 @@ ghost use Rattle.zre_tables.specs.declared.connection.Connection.{Connection as 
 
 use crate::connection::Connection;
 use crate::rows::Rows;
-use crate::searches::earlier_rest;
+use crate::searches::earlier_idle;
 use std::alloc::Global;
 use std::marker::Model;
 use zre_values::{OutOfMemory, PeerId};
@@ -29,7 +29,7 @@ impl Model for Conns {
     ghost use Rattle.std.specs.List.Sorted.{IsStrictlySortedBy};
     ghost use Rattle.std.specs.Map.{keys_of};
     ghost use Rattle.std.specs.Ordering.{nat_cmp};
-    ghost use Rattle.zre_tables.specs.Resting.{AllRestFrom};
+    ghost use Rattle.zre_tables.specs.IdleConnections.{AllIdleFrom};
     ghost use Rattle.zre_tables.specs.declared.connection.Connection.{Connection as ConnectionValue};
 
     ghost Value = { List (ℕ × ConnectionValue) };
@@ -37,7 +37,7 @@ impl Model for Conns {
     ghost view = { λ conns. conns.rows.all.items };
 
     ghost invariant = { λ conns. IsStrictlySortedBy nat_cmp (keys_of conns.rows.all.items)
-        × AllRestFrom conns.first conns.rows.all.items };
+        × AllIdleFrom conns.first conns.rows.all.items };
 }
 
 impl Conns {
@@ -78,7 +78,7 @@ impl Conns {
         ensures ok { OnOk result (self.new ≡ insert_entry nat_cmp self.old conn opened) }
         ensures err { OnErr result (self.new ≡ self.old) }
     {
-        self.first = earlier_rest(&opened, self.first);
+        self.first = earlier_idle(&opened, self.first);
         self.rows.insert(conn, opened)
     }
 
@@ -115,7 +115,7 @@ impl Conns {
         if let Some(at) = self.rows.place(conn) {
             let found = &mut self.rows.all[at].1;
             found.put_aside(now);
-            self.first = earlier_rest(found, self.first);
+            self.first = earlier_idle(found, self.first);
         }
     }
 }

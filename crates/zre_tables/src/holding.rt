@@ -50,7 +50,7 @@ fn view_octets(view: &View) -> u64
         .saturating_add(groups_octets(view))
 }
 
-// The same, where it is entered.
+// The octets of a peer's view, where it is entered.
 fn shown_octets(peer: &Peer) -> u64
     ensures { result ≡ capped (shown_octets (view_of_row peer.now)) }
 {

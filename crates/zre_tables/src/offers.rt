@@ -92,7 +92,7 @@ fn offer_rows(rows: &Rows<Peer>, links: &[u64], acts: &mut Acts) -> Result<(), O
     Ok(())
 }
 
-// The same in the cheaper way.
+// Offers links that rise, by searches or by a walk over the rows, whichever is cheaper.
 fn offer_rising(rows: &Rows<Peer>, links: &[u64], acts: &mut Acts) -> Result<(), OutOfMemory>
     requires rising { IsStrictlyIncreasing links.now }
     requires sorted { IsStrictlySortedBy nat_cmp (keys_of rows.now.all.items) }

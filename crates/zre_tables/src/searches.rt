@@ -9,7 +9,7 @@ ghost use Rattle.std.specs.Map.{keys_of};
 ghost use Rattle.std.specs.Ordering.{nat_cmp};
 ghost use Rattle.zre_journal.specs.Connections.{is_same as same_peer};
 ghost use Rattle.zre_tables.specs.Agreement.{AreHeard};
-ghost use Rattle.zre_tables.specs.Resting.{AllRestFrom, RestsFrom};
+ghost use Rattle.zre_tables.specs.IdleConnections.{AllIdleFrom, IdleFrom};
 ghost use Rattle.zre_tables.specs.Rows.{numbers_of, passes_at, row_at};
 ghost use Rattle.zre_tables.specs.Searches.{link_among, other_among, row_evasive, row_silent, row_stale};
 ghost use Rattle.zre_tables.specs.Views.{ids_entered, row_in, view_among};
@@ -92,9 +92,9 @@ fn stale_among(
 }
 
 // The earlier of a moment and that at which a connection began to rest, if it runs no peer.
-pub(crate) fn earlier_rest(conn: &Connection, first: u64) -> u64
+pub(crate) fn earlier_idle(conn: &Connection, first: u64) -> u64
     ensures before { result ≤ first }
-    ensures rests { RestsFrom result conn.now }
+    ensures rests { IdleFrom result conn.now }
 {
     if conn.run.is_none() && conn.since < first {
         conn.since
@@ -104,12 +104,12 @@ pub(crate) fn earlier_rest(conn: &Connection, first: u64) -> u64
 }
 
 // A moment before which none of these connections that run no peer began to rest.
-fn first_rest(rows: &Rows<Connection>) -> u64
-    ensures { AllRestFrom result rows.now.all.items }
+fn first_idle(rows: &Rows<Connection>) -> u64
+    ensures { AllIdleFrom result rows.now.all.items }
 {
     let mut first = u64::MAX;
     for (_, conn) in &rows.all {
-        first = earlier_rest(conn, first);
+        first = earlier_idle(conn, first);
     }
     first
 }
@@ -366,7 +366,7 @@ impl Conns {
         if !has_passed(limit, now, self.first) {
             return Ok(Keys::new(self.alloc));
         }
-        self.first = first_rest(&self.rows);
+        self.first = first_idle(&self.rows);
         stale_among(self.alloc, &self.rows, limit, now)
     }
 }

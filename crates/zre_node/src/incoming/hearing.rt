@@ -37,8 +37,8 @@ impl Tables {
         self.clock = at.max(self.clock);
     }
 
-    /// The same, with a piece of a connection: what it completes of what that connection says goes into an empty list,
-    /// and the fault that ends it, if there is one, comes back.
+    /// The clock goes on, and a piece of a connection is read: what it completes of what that connection says goes into
+    /// an empty list, and the fault that ends it, if there is one, comes back.
     pub fn come_piece<L: Ledger>(
         &mut self,
         piece: &Piece<'_>,

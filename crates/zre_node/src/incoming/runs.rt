@@ -49,7 +49,7 @@ impl Tables {
         }
     }
 
-    /// The same of a message that stands by itself.
+    /// A message after the first, which stands by itself, on the connection that runs the peer of this link.
     #[inline(never)]
     pub fn later_whole(
         &mut self,
@@ -84,7 +84,7 @@ impl Tables {
         }
     }
 
-    // The same of frames that begin as HELLO does.
+    // The message of frames that begin as HELLO does, if they mean one: a further HELLO ends the peer.
     #[inline(never)]
     fn hello_in(&mut self, out: &mut Effects, link: u64, frames: &Frames) -> Result<(), OutOfMemory>
         ensures { DoesOnRun link (λ g H conn. at_read g conn link (result_ok (read_frames frames.now)) H)

@@ -1,6 +1,6 @@
 use Rattle.std.proofs.Common.{◌+◌, drop, subst}
 use Rattle.zre_tables.proofs.Placed.{next_of}
-use Rattle.zre_tables.proofs.Walking.{Left, first_left, rest_left}
+use Rattle.zre_tables.proofs.Walking.{Left, first_left, idle_left}
 use Rattle.zre_tables.proofs.searches.update.Goals as goal
 use Rattle.zre_tables.proofs.searches.update.Goals.{in-Some+in_ok-update_one, in_default, then-next-links+then-links-next+in_ok-update_one-2, else-next-links}
 
@@ -22,7 +22,7 @@ loop-link-preserved c =
         | then-next-links+then-links-next+in_ok-update_one-2 w ↦ rw w.heard-is (λ r a. w.update_one-then-links-next.ensures es r (first_left es e rest left) (inv.0 r a))
         | else-next-links w ↦ rw w.heard-is inv.0
       ],
-      rest_left es e rest left,
+      idle_left es e rest left,
     )
 
 pub returns-in_err-update_one-2 : goal.returns-in_err-update_one-2

@@ -2,7 +2,7 @@ use Rattle.std.proofs.Common.{arith, sym, ap, ◌∙◌}
 use Rattle.zre_journal.specs.Events.{chronicle}
 use Rattle.zre_node.specs.Kinds.{piece_entry}
 use Rattle.zre_node.specs.declared.node.Node.{Node}
-use Rattle.zre_node.proofs.Looking.{kept_happened, rests_lowers}
+use Rattle.zre_node.proofs.Looking.{kept_happened, idle_lowers}
 use Rattle.zre_node.proofs.Stepping.{finished, begun, took_nothing}
 use Rattle.zre_node.proofs.node.Node.step_lent.Goals as goal
 use Rattle.zre_node.proofs.node.Node.step_lent.Goals.{then-not-self+in_ok-take_piece, else-not-self}
@@ -29,5 +29,5 @@ returns-clause-looks over c = λ g J s.
     let st = begun g H c.args.self.now b c.in_ok-begin.ensures.ok.1 s.stands in
     elim c.if-not-self.branch [
       | then-not-self+in_ok-take_piece w ↦ rw w.steps-is (omega (arith, (w.in_ok-take_piece.ensures.looks g H (st.going (sym st.stopped ∙ w.if-not-self.true))).0, kept_happened g J e), tt)
-      | else-not-self w ↦ rw w.steps-is (omega (arith, rests_lowers g e H b.tables (st.resting (sym st.stopped ∙ w.if-not-self.false)), kept_happened g J e), tt)
+      | else-not-self w ↦ rw w.steps-is (omega (arith, idle_lowers g e H b.tables (st.resting (sym st.stopped ∙ w.if-not-self.false)), kept_happened g J e), tt)
     ]

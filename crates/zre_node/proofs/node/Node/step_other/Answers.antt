@@ -1,7 +1,7 @@
 use Rattle.std.proofs.Common.{arith, sym, ap, ◌∙◌}
 use Rattle.zre_journal.specs.Events.{chronicle}
 use Rattle.zre_node.specs.declared.node.Node.{Node}
-use Rattle.zre_node.proofs.Looking.{kept_happened, rests_lowers}
+use Rattle.zre_node.proofs.Looking.{kept_happened, idle_lowers}
 use Rattle.zre_node.proofs.Stepping.{finished, begun, took_nothing}
 use Rattle.zre_node.proofs.node.Node.step_other.Goals as goal
 use Rattle.zre_node.proofs.node.Node.step_other.Goals.{then-self, else-self+in_ok-take_other}
@@ -27,6 +27,6 @@ returns-clause-looks over c = λ g J s.
     let b = c.begin.new.self in
     let st = begun g H c.args.self.now b c.in-Ok.ensures.ok.1 s.stands in
     elim c.if-self.branch [
-      | then-self w ↦ rw w.steps-is (omega (arith, rests_lowers g e H b.tables (st.resting (sym st.stopped ∙ w.if-self.true)), kept_happened g J e), tt)
+      | then-self w ↦ rw w.steps-is (omega (arith, idle_lowers g e H b.tables (st.resting (sym st.stopped ∙ w.if-self.true)), kept_happened g J e), tt)
       | else-self+in_ok-take_other w ↦ rw w.steps-is (omega (arith, (w.in_ok-take_other.ensures.looks g H (st.going (sym st.stopped ∙ w.if-self.false))).0, kept_happened g J e), tt)
     ]

@@ -1,4 +1,4 @@
-use Rattle.zre_node.proofs.Many.{idle_did}
+use Rattle.zre_node.proofs.MarksAfterMarks.{idle_did}
 use Rattle.zre_node.proofs.Parting.{nearly}
 use Rattle.zre_node.proofs.tables.Tables.end_by_reply.Goals as goal
 

@@ -8,7 +8,7 @@ use Rattle.zre_journal.specs.Arrivals.{end_of_run}
 use Rattle.zre_journal.proofs.Idle.{idle_then}
 use Rattle.zre_values.proofs.Answered.{on_ok}
 use Rattle.zre_node.proofs.Faulting.{dead_places, fault_live, stands_not, stands_so}
-use Rattle.zre_node.proofs.Many.{did_as, did_then, idle_did}
+use Rattle.zre_node.proofs.MarksAfterMarks.{did_as, did_then, idle_did}
 use Rattle.zre_node.proofs.Starting.{live_open}
 use Rattle.zre_node.proofs.tables.Tables.fault.Goals as goal
 

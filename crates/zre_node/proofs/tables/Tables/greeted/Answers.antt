@@ -3,7 +3,7 @@ use Rattle.zre_outside.specs.declared.act.Act.TheVariants as act
 use Rattle.zre_journal.specs.Chronicle.{Greets}
 use Rattle.zre_node.specs.declared.effects.Effects.{Effects}
 use Rattle.zre_values.proofs.Answered.{on_ok}
-use Rattle.zre_node.proofs.Many.{did_by}
+use Rattle.zre_node.proofs.MarksAfterMarks.{did_by}
 use Rattle.zre_node.proofs.Shaking.{greets}
 use Rattle.zre_node.proofs.tables.Tables.greeted.Goals as goal
 

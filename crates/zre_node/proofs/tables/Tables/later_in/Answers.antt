@@ -1,4 +1,4 @@
-use Rattle.zre_node.proofs.Many.{idle_did}
+use Rattle.zre_node.proofs.MarksAfterMarks.{idle_did}
 use Rattle.zre_node.proofs.tables.Tables.later_in.Goals as goal
 
 pub returns-in-Ok-Some : goal.returns-in-Ok-Some

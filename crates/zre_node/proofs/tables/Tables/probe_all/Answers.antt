@@ -1,5 +1,5 @@
 use Rattle.zre_node.specs.Ticks.{probes}
-use Rattle.zre_node.proofs.Many.{one_more_link, all_links}
+use Rattle.zre_node.proofs.MarksAfterMarks.{one_more_link, all_links}
 use Rattle.zre_node.proofs.Ticking.{entered_at}
 use Rattle.zre_node.proofs.tables.Tables.probe_all.Goals as goal
 

@@ -4,7 +4,7 @@ use Rattle.zre_node.specs.declared.effects.Effects.{Effects}
 use Rattle.zre_node.specs.Stands.{kept_conn}
 use Rattle.zre_values.proofs.Answered.{on_ok}
 use Rattle.zre_node.proofs.Ending.{conn_row}
-use Rattle.zre_node.proofs.Many.{did_by}
+use Rattle.zre_node.proofs.MarksAfterMarks.{did_by}
 use Rattle.zre_node.proofs.Starting.{live_open, refused}
 use Rattle.zre_node.proofs.tables.Tables.refuse.Goals as goal
 

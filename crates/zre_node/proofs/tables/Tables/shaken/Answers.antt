@@ -2,7 +2,7 @@ use Rattle.std.proofs.Common.{ℕ, Option, ◌++◌, [], ◌∷◌, sym, ap, ◌
 use Rattle.zre_journal.specs.Chronicle.{Shakes}
 use Rattle.zre_journal.specs.Arrivals.{taken_over}
 use Rattle.zre_journal.proofs.Idle.{gave_way}
-use Rattle.zre_node.proofs.Many.{did_as, did_then, silent_did}
+use Rattle.zre_node.proofs.MarksAfterMarks.{did_as, did_then, silent_did}
 use Rattle.zre_node.proofs.Shaking.{other_found, other_open}
 use Rattle.zre_node.proofs.tables.Tables.shaken.Goals as goal
 

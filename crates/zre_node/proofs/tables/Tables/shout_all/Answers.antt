@@ -3,7 +3,7 @@ use Rattle.zre_msg.specs.declared.message.Body.TheVariants as body
 use Rattle.zre_journal.specs.Chronicle.{Mark, in_turn, after}
 use Rattle.zre_journal.specs.Pushes.{push}
 use Rattle.zre_node.proofs.Broadcasting.{known_in_turn}
-use Rattle.zre_node.proofs.Many.{one_more_link, all_links}
+use Rattle.zre_node.proofs.MarksAfterMarks.{one_more_link, all_links}
 use Rattle.zre_node.proofs.tables.Tables.shout_all.Goals as goal
 
 pub loop-link-preserved : goal.loop-link-preserved

@@ -5,7 +5,7 @@ use Rattle.zre_journal.specs.Arrivals.{end_of_run}
 use Rattle.zre_journal.proofs.Idle.{idle_then}
 use Rattle.zre_peer.specs.declared.causes.Cause.TheVariants as cause
 use Rattle.zre_node.proofs.Ending.{some_row}
-use Rattle.zre_node.proofs.Many.{did_as, did_then, silent_did, idle_did}
+use Rattle.zre_node.proofs.MarksAfterMarks.{did_as, did_then, silent_did, idle_did}
 use Rattle.zre_node.proofs.Opening.{is_shut, shut_not_open, shut_open}
 use Rattle.zre_node.proofs.tables.Tables.shut.Goals as goal
 

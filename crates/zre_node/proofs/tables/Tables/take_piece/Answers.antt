@@ -9,7 +9,7 @@ use Rattle.zre_node.specs.Brings.{octets_of}
 use Rattle.zre_node.specs.Kinds.{piece_entry}
 use Rattle.zre_node.specs.Said.{said_in}
 use Rattle.zre_node.proofs.Looking.{less_looks, entry_lowers, err_looks}
-use Rattle.zre_node.proofs.Many.{did_as}
+use Rattle.zre_node.proofs.MarksAfterMarks.{did_as}
 use Rattle.zre_node.proofs.Taking.{piece_marks, unnamed_piece, took}
 use Rattle.zre_node.proofs.tables.Tables.take_piece.Goals as goal
 

@@ -8,7 +8,7 @@ use Rattle.zre_node.specs.declared.effects.Effects.{Effects}
 use Rattle.zre_values.proofs.Answered.{on_ok}
 use Rattle.zre_node.proofs.Linking.{noted, reply_marks, reply_names}
 use Rattle.zre_node.proofs.Looking.{less_looks, entry_lowers, err_looks}
-use Rattle.zre_node.proofs.Many.{did_as, did_then}
+use Rattle.zre_node.proofs.MarksAfterMarks.{did_as, did_then}
 use Rattle.zre_node.proofs.Replying.{pongs_did}
 use Rattle.zre_node.proofs.Taking.{took_noted}
 use Rattle.zre_node.proofs.tables.Tables.take_reply.Goals as goal

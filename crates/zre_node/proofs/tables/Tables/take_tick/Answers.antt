@@ -2,7 +2,7 @@ use Rattle.std.proofs.Common.{◌∷◌}
 use Rattle.zre_journal.specs.Chronicle.{Comes}
 use Rattle.zre_journal.specs.Happens.{at_input}
 use Rattle.zre_values.proofs.Answered.{on_ok}
-use Rattle.zre_node.proofs.Many.{did_as}
+use Rattle.zre_node.proofs.MarksAfterMarks.{did_as}
 use Rattle.zre_node.proofs.Taking.{took}
 use Rattle.zre_node.proofs.Ticking.{tick_named, tick_input}
 use Rattle.zre_node.proofs.tables.Tables.take_tick.Goals as goal

@@ -1,7 +1,7 @@
 use Rattle.std.proofs.Common.{[], sym, ◌∙◌}
 use Rattle.zre_journal.specs.Peers.{life}
 use Rattle.zre_node.proofs.Linking.{some_peer, no_break, break}
-use Rattle.zre_node.proofs.Many.{did_as, idle_did}
+use Rattle.zre_node.proofs.MarksAfterMarks.{did_as, idle_did}
 use Rattle.zre_node.proofs.Parting.{nearly}
 use Rattle.zre_node.proofs.Starting.{on_did_as}
 use Rattle.zre_node.proofs.tables.Tables.unlinked.Goals as goal

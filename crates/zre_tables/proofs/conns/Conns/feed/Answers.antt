@@ -9,7 +9,7 @@ use Rattle.zre_tables.specs.declared.connection.Connection.{Connection}
 use Rattle.zre_tables.proofs.Agreeing.{some_is}
 use Rattle.zre_tables.proofs.Changing.{same, put_back, put_same}
 use Rattle.zre_tables.proofs.Placed.{lies}
-use Rattle.zre_tables.proofs.Resting.{put_kept}
+use Rattle.zre_tables.proofs.IdleConnections.{put_kept}
 use Rattle.zre_tables.proofs.conns.Conns.feed.Goals as goal
 
 -- the same looks, of octets that are kept by another name

@@ -1,7 +1,7 @@
 use Rattle.std.proofs.Common.{sym, ap, ◌∙◌}
 use Rattle.zre_tables.specs.Rows.{numbers_of}
 use Rattle.zre_tables.specs.Searches.{row_stale}
-use Rattle.zre_tables.proofs.Resting.{none_stale}
+use Rattle.zre_tables.proofs.IdleConnections.{none_stale}
 use Rattle.zre_tables.proofs.conns.Conns.stale.Goals as goal
 
 pub returns-then-not-has_passed-clause-found : goal.returns-then-not-has_passed-clause-found

@@ -7,7 +7,7 @@ use Rattle.zre_tables.specs.declared.peer.Peer.{Peer}
 use Rattle.zre_tables.specs.Rows.{row_at}
 use Rattle.zre_tables.specs.Searches.{row_silent}
 use Rattle.zre_tables.proofs.Listing.{all_keys, among_keys}
-use Rattle.zre_tables.proofs.Agreeing.{rests, rests_by}
+use Rattle.zre_tables.proofs.Agreeing.{rests, idle_by}
 use Rattle.zre_tables.proofs.peers.Peers.rested.Goals as goal
 
 pub returns-then-self-clause-rising : goal.returns-then-self-clause-rising
@@ -24,4 +24,4 @@ returns-clause-all c = λ n x at t.
     let h = c.self.invariant.times in
     let here = ap (row_at n) c.self.view_is ∙ at in
     c.in_ok-due.ensures.expired.members n ∙ rests _ _ c.in-Some.latest _ refl (h.timed n ∙ ap is_some here)
-    (rests_by _ x.active (2 ^ 64 - 1) c.in-Some.latest (h.moments c.if-self.false n x here) (h.past n) (λ m. c.in-Some.ensures x.active m t))
+    (idle_by _ x.active (2 ^ 64 - 1) c.in-Some.latest (h.moments c.if-self.false n x here) (h.past n) (λ m. c.in-Some.ensures x.active m t))

@@ -9,8 +9,8 @@ use Rattle.zre_journal.specs.Chronicle.{Mark, Ends, after, in_turn}
 use Rattle.zre_journal.specs.Peers.{Life, lives, life}
 use Rattle.zre_journal.specs.Told.{told}
 use Rattle.zre_journal.specs.Done.{done, puts}
-use Rattle.zre_journal.proofs.Joined.{after-append, told-append, done-append, in_turn-append}
-use Rattle.zre_journal.proofs.Listed.{others_find}
+use Rattle.zre_journal.proofs.JoinedEntries.{after-append, told-append, done-append, in_turn-append}
+use Rattle.zre_journal.proofs.NumberedLists.{others_find}
 use Rattle.zre_node.specs.declared.tables.Tables.{Tables}
 use Rattle.zre_node.specs.declared.effects.Effects.{Effects}
 use Rattle.zre_node.specs.Stands.{Holds, Did, AreKnown}
