@@ -18,7 +18,7 @@ use Rattle.zre_capture.specs.Values.{id_of, address_of, number_within, short_of}
 use Rattle.zre_capture.specs.declared.format.Format.TheVariants.{Second}
 use Rattle.zre_capture.specs.declared.head.PlainSettings.{PlainSettings}
 use Rattle.zre_values.specs.declared.settings.Settings.{Settings}
-use Rattle.zre_capture.proofs.Back.{stepped}
+use Rattle.zre_capture.proofs.ReadIsSpelled.{stepped}
 use Rattle.zre_capture.proofs.Differences.{within-some, within-decimal}
 use Rattle.zre_capture.proofs.Spelled.{id_of-text, id_of-some, address_of-text, address_of-some}
 use Rattle.zre_capture.proofs.HeaderTexts.{short-quoted, short_of-some}

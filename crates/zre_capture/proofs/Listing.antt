@@ -19,7 +19,7 @@ use Rattle.zre_capture.specs.Values.{short_of, unquoted}
 use Rattle.zre_capture.proofs.HeaderTexts.{short_of-some, short-quoted}
 use Rattle.zre_capture.proofs.Members.{quoted-lacks, comma, equals}
 use Rattle.zre_capture.proofs.Parts.{between-cut, between-whole, lacks-from_any}
-use Rattle.zre_capture.proofs.Back.{stepped}
+use Rattle.zre_capture.proofs.ReadIsSpelled.{stepped}
 use Rattle.zre_capture.proofs.Unquoting.{unquoted-quoted}
 use Rattle.zre_capture.proofs.Visible.{visible, is_visible, quoted-visible}
 

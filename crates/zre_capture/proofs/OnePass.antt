@@ -8,7 +8,7 @@ use Rattle.zre_capture.specs.declared.format.Format.{Format}
 use Rattle.zre_capture.specs.Lines.{difference, reading_text, text}
 use Rattle.zre_capture.specs.Values.{hex_of}
 use Rattle.zre_capture.specs.Reading.{entry_of}
-use Rattle.zre_capture.proofs.Again.{entry_of-text}
+use Rattle.zre_capture.proofs.WrittenIsRead.{entry_of-text}
 use Rattle.zre_capture.proofs.Differences.{difference-up}
 use Rattle.zre_capture.proofs.Spelled.{hex_of-some}
 

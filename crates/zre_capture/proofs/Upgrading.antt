@@ -26,7 +26,7 @@ use Rattle.zre_capture.specs.declared.word.InputWord.{InputWord}
 use Rattle.zre_capture.specs.declared.word.InputWord.TheVariants as word
 use Rattle.zre_capture.specs.declared.word.CommandWord.{CommandWord}
 use Rattle.zre_capture.specs.declared.word.CommandWord.TheVariants as order
-use Rattle.zre_capture.proofs.Back.{both, made, stood_alone, stepped, worded, text-entry_of}
+use Rattle.zre_capture.proofs.ReadIsSpelled.{both, made, stood_alone, stepped, worded, text-entry_of}
 use Rattle.zre_capture.proofs.Differences.{reading_after-some}
 use Rattle.zre_capture.proofs.Lines.{entries-good, entries-bad}
 use Rattle.zre_capture.proofs.Members.{frames_of-some}

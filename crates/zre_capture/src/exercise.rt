@@ -39,9 +39,11 @@ impl Exercise {
 
     /// The exercise before its first entry.
     pub fn new(alloc: Global, seed: u64, peers: u16, messages: u32) -> Self
+        // The bounds of an exercise.
         requires some { 1 ≤ peers }
         requires few { peers ≤ 256 }
         requires short { messages ≤ 1000000 }
+        // What is made.
         ensures { left result ≡ exercise seed peers messages }
     {
         Exercise {

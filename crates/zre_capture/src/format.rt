@@ -6,8 +6,8 @@ ghost use Rattle.zre_capture.specs.Formats.{longest};
 /// As many octets as a line of format 1 may have before its line feed.
 pub const LINE_OCTETS: usize = 4194304;
 
-/// The same of format 2: a line of format 1 whose first field is an octet for one digit, at the least, has twenty-one
-/// octets there at the most, a minus and twenty digits.
+/// The most octets of a line of format 2: where a line of format 1 begins with one digit at the least, it begins with
+/// twenty-one octets at the most, a minus and twenty digits.
 pub const LINE_OCTETS_2: usize = 4194324;
 
 /// How a capture is written.

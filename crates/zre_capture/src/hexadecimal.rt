@@ -129,10 +129,13 @@ fn decode(room: &mut [u8], digits: &[u8]) -> bool
 }
 
 // Of few octets, which need no memory.
+#[inline(always)]
 fn decode_few(alloc: Global, digits: &[u8]) -> Result<Option<Octets>, OutOfMemory>
+    // What a caller knows.
     requires even { length digits.now % 2 ≡ 0 }
     requires some { 0 < length digits.now }
     requires few { length digits.now ≤ 64 }
+    // What a call that is done gives.
     ensures { IfOk result (λ found. found ≡ hex_of digits.now) }
 {
     let mut room = [0u8; FEW];
@@ -143,6 +146,7 @@ fn decode_few(alloc: Global, digits: &[u8]) -> Result<Option<Octets>, OutOfMemor
     Ok(Some(Octets::copy(alloc, octets)?))
 }
 
+#[inline(never)]
 fn decode_many(alloc: Global, digits: &[u8]) -> Result<Option<Octets>, OutOfMemory>
     requires even { length digits.now % 2 ≡ 0 }
     requires some { 0 < length digits.now }
@@ -156,6 +160,7 @@ fn decode_many(alloc: Global, digits: &[u8]) -> Result<Option<Octets>, OutOfMemo
 }
 
 /// The octets of a field. Up to 32 need no memory; more take it before their digits are looked at.
+#[inline(always)]
 pub fn hex(alloc: Global, field: &[u8]) -> Result<Option<Octets>, OutOfMemory>
     ensures { IfOk result (λ found. found ≡ hex_of field.now) }
 {

@@ -50,9 +50,11 @@ fn read_head(
     told: &mut Option<Settings>,
     text: &[u8],
 ) -> Result<bool, OutOfMemory>
+    // What the head says.
     ensures head { IfOk result (λ is. is ≡ is_head format text.now) }
     ensures told { IfOk result (λ is. OnTrue is (told.new ≡ option_or (settings_said format text.now) told.old)) }
     ensures other { IfOk result (λ is. OnFalse is (told.new ≡ told.old)) }
+    // What is kept of it.
     ensures kept { OnErr result (told.new ≡ told.old) }
 {
     match format {
@@ -139,11 +141,14 @@ fn read_whole(
     text: &[u8],
     out: &mut Entries,
 ) -> Result<u64, CaptureFault>
+    // What a call that is done gives.
     ensures ok { IfOk result (λ at. (es : List EntryValue) × (line_of place text.now ≡ Some es)
         × (out.new ≡ out.old ++ es) × (at ≡ last_reading place.before es)
         × (told.new ≡ told_after place text.now told.old)) }
+    // What a refusal tells, and what it leaves.
     ensures refused { IfErr result (λ e. Refuses e (λ b. (line_of place text.now ≡ None)
         × (b ≡ bad_line place text.now))) }
+    // What is kept.
     ensures kept { OnErr result (out.new ≡ out.old) }
     ensures kept_told { OnErr result (told.new ≡ told.old) }
 {
@@ -247,13 +252,16 @@ impl CaptureReader {
     // Reads the line of which these octets are the end. Gives the reading of its entry, or that before it.
     fn read_end(&mut self, text: &[u8], out: &mut Entries) -> Result<u64, CaptureFault>
         requires { Waits self.old }
+        // What a call that is done gives.
         ensures ok { IfOk result (λ at. (es : List EntryValue)
             × (line_of self.old.place (self.old.left ++ text.now) ≡ Some es) × (out.new ≡ out.old ++ es)
             × (at ≡ last_reading self.old.place.before es)
             × (self.new.told ≡ told_after self.old.place (self.old.left ++ text.now) self.old.told)) }
+        // What a refusal tells, and what it leaves.
         ensures refused { IfErr result (λ e. Refuses e (λ b.
             (line_of self.old.place (self.old.left ++ text.now) ≡ None)
             × (b ≡ bad_line self.old.place (self.old.left ++ text.now)))) }
+        // What is kept.
         ensures kept { OnErr result (out.new ≡ out.old) }
         ensures kept_told { OnErr result (self.new.told ≡ self.old.told) }
     {
@@ -273,12 +281,15 @@ impl CaptureReader {
     // Reads what a line feed ends.
     fn take_line(&mut self, text: &[u8], out: &mut Entries) -> Result<(), CaptureFault>
         requires { Waits self.old }
+        // What a call that is done gives.
         ensures ok { OnOk result ((es : List EntryValue)
             × (line_of self.old.place (self.old.left ++ text.now) ≡ Some es) × (out.new ≡ out.old ++ es)
             × (self.new ≡ after_line self.old text.now es)) }
+        // What a refusal tells, and what it leaves.
         ensures refused { IfErr result (λ e. Refuses e (λ b.
             (line_of self.old.place (self.old.left ++ text.now) ≡ None)
             × (b ≡ bad_line self.old.place (self.old.left ++ text.now)))) }
+        // What is kept.
         ensures kept { OnErr result (out.new ≡ out.old) }
         ensures kept_told { OnErr result (self.new.told ≡ self.old.told) }
     {
@@ -299,11 +310,13 @@ impl CaptureReader {
     /// refusal nothing more is read; OutOfMemory is also told where a line's number would be above 2^64 - 1.
     pub fn feed(&mut self, piece: &[u8], out: &mut Entries) -> Result<(), CaptureFault>
         requires { Waits self.old }
+        // What a piece adds.
         ensures ok { (o : List ℕ) → Reads o self.old → OnOk result (Reads (o ++ piece.now) self.new
             × Adds (format_of self.old) o piece.now out.old out.new
             × (bad (format_of self.old) (o ++ piece.now) ≡ None)) }
         ensures waits { OnOk result (Waits self.new) }
         ensures format { OnOk result (format_of self.new ≡ format_of self.old) }
+        // What a refusal tells, and what it leaves.
         ensures refused { (o : List ℕ) → Reads o self.old → IfErr result (λ e. Refuses e (λ b.
             (bad (format_of self.old) (o ++ piece.now) ≡ Some b)
             × Adds (format_of self.old) o piece.now out.old out.new

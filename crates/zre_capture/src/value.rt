@@ -17,7 +17,7 @@ pub fn number(field: &[u8]) -> Option<u64>
     Some(n)
 }
 
-/// The same in these bounds.
+/// The decimal number of a field, if it is one within these bounds.
 pub(crate) fn number_within(least: u64, most: u64, field: &[u8]) -> Option<u64>
     ensures number { result ≡ number_within least most field.now }
     ensures above { IfSome result (λ n. least ≤ n) }

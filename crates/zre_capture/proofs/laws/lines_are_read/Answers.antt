@@ -1,4 +1,4 @@
-use Rattle.zre_capture.proofs.Again.{entry_of-text}
+use Rattle.zre_capture.proofs.WrittenIsRead.{entry_of-text}
 use Rattle.zre_capture.proofs.laws.lines_are_read.Goals as goal
 
 pub returns : goal.returns

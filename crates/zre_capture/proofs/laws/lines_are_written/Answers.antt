@@ -1,4 +1,4 @@
-use Rattle.zre_capture.proofs.Back.{text-entry_of}
+use Rattle.zre_capture.proofs.ReadIsSpelled.{text-entry_of}
 use Rattle.zre_capture.proofs.laws.lines_are_written.Goals as goal
 
 pub returns : goal.returns

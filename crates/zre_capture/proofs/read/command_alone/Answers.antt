@@ -1,4 +1,4 @@
-use Rattle.zre_capture.proofs.Alone.{no_command}
+use Rattle.zre_capture.proofs.WordsWithFields.{no_command}
 use Rattle.zre_capture.proofs.read.command_alone.Goals as goal
 
 pub returns-in_default : goal.returns-in_default

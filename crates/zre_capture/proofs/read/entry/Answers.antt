@@ -1,6 +1,6 @@
 use Rattle.std.proofs.Common.{sym, ap, ◌∙◌}
 use Rattle.zre_capture.specs.Reading.{entry_in}
-use Rattle.zre_capture.proofs.Alone.{no_entry}
+use Rattle.zre_capture.proofs.WordsWithFields.{no_entry}
 use Rattle.zre_capture.proofs.read.entry.Goals as goal
 
 pub returns-in-None : goal.returns-in-None

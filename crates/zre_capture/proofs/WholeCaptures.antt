@@ -17,7 +17,7 @@ use Rattle.zre_capture.proofs.Parts.{between-cut, lacks-from_any}
 use Rattle.zre_capture.proofs.Lines.{entries-good, bad-good, end-good, some_lines, head-first}
 use Rattle.zre_capture.proofs.Heads.{head-visible, settings_of-head}
 use Rattle.zre_capture.proofs.Visible.{no_line_feed}
-use Rattle.zre_capture.proofs.Again.{entry_of-text, fields-visible}
+use Rattle.zre_capture.proofs.WrittenIsRead.{entry_of-text, fields-visible}
 
 -- ---- the head
 
