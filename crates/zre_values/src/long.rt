@@ -23,8 +23,11 @@ impl Model for Long {
     ghost invariant = { λ long. long.count ≤ length long.items.items };
 }
 
-// Makes room for so many octets more after so many. The vector is at least twice as long then, so that octets are
-// moved seldom.
+// How many octets are filled with zeros at most beyond those that are needed.
+const SPARE: usize = 4_096;
+
+// Makes room for so many octets more after so many, and for some that may follow. The vector itself takes twice as much
+// memory where it takes more; of that no more is touched.
 #[cold]
 #[inline(never)]
 fn grow(items: &mut Vec<u8>, count: usize, more: usize) -> Result<(), OutOfMemory>
@@ -36,8 +39,7 @@ fn grow(items: &mut Vec<u8>, count: usize, more: usize) -> Result<(), OutOfMemor
     let Some(size) = count.checked_add(more) else {
         return Err(OutOfMemory);
     };
-    let twice = items.len().saturating_mul(2);
-    items.resize(size.max(twice), 0)?;
+    items.resize(size.saturating_add(size.min(SPARE)), 0)?;
     Ok(())
 }
 
