@@ -1,3 +1,4 @@
+mod Audited
 pub mod Endings
 pub mod Refusing
 pub mod Replayed

@@ -1,7 +1,8 @@
 -- What is proved of what the commands make of captures and of schedules.
-use Rattle.std.specs.Prelude.{◌≡◌, ℕ, false, List, All}
+use Rattle.std.specs.Prelude.{◌≡◌, ◌↔◌, ℕ, false, List, All, Some, codes}
+use Rattle.zre_audit.specs.Agreement.{Agree}
 use Rattle.zre_capture.specs.Heads.{AreSettings}
-use Rattle.zre_capture.specs.Journal.{capture, journal}
+use Rattle.zre_capture.specs.Journal.{capture, journal, settings}
 use Rattle.zre_capture.specs.Lines.{IsEntry, AreShort}
 use Rattle.zre_capture.specs.declared.format.Format.TheVariants.{First, Second}
 use Rattle.zre_values.specs.declared.settings.Settings.{Settings}
@@ -12,6 +13,7 @@ use Rattle.zre_net.specs.Said.{said}
 use Rattle.zre_outside.specs.declared.entry.Entry.{Entry}
 use Rattle.zre_peer.specs.Lines.{lines}
 use Rattle.zre_commands.specs.pump.Meaning.{whole_text}
+use Rattle.zre_records.specs.audit.Audit.{audit, earlier, later}
 use Rattle.zre_records.specs.replay.Replay.{told_replay}
 use Rattle.zre_records.specs.simulate.Simulate.{simulate, told_lines}
 use Rattle.zre_records.specs.upgrade.Upgrade.{upgrade}
@@ -41,3 +43,12 @@ pub record IsSimulated (o : List ℕ) : Type 0 where
 -- so it is of every schedule that isn't refused
 abbrev pub SchedulesAgree : Type 0
 SchedulesAgree = (o : List ℕ) → simulate.is_bad o ≡ false → IsSimulated o
+
+-- of two captures that aren't refused, of nodes with these settings, `AUDIT yes` is written exactly where their journals
+-- agree
+abbrev pub AuditsSayYes : Type 0
+AuditsSayYes =
+    (o : List ℕ) (s t : Settings) → audit.is_bad o ≡ false
+    → settings Second (earlier o) ≡ Some s → settings Second (later o) ≡ Some t
+    → (whole_text audit o ≡ codes "AUDIT yes\n")
+    ↔ Agree s t (journal Second (earlier o)) (journal Second (later o))

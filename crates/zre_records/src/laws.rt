@@ -1,6 +1,6 @@
 //! Laws of what commands make of captures and of schedules. The functions do nothing: what they ensure is for proofs.
 
-ghost use Rattle.zre_records.specs.Laws.{CapturesAreReplayed, SchedulesAgree, UpgradedIsReplayed};
+ghost use Rattle.zre_records.specs.Laws.{AuditsSayYes, CapturesAreReplayed, SchedulesAgree, UpgradedIsReplayed};
 
 /// A replay without words of a capture of format 2 writes the lines of the events of its journal, where no line of it
 /// is too long to be read.
@@ -19,4 +19,10 @@ pub fn upgraded_captures_are_replayed()
 /// them.
 pub fn schedules_agree()
     ensures { SchedulesAgree }
+{}
+
+/// Of two captures that it doesn't refuse `audit` writes `AUDIT yes` exactly where their journals agree: where what each
+/// node heard in a run of the other is the beginning of what the other put on a link, on another one for each run.
+pub fn audits_say_yes_where_journals_agree()
+    ensures { AuditsSayYes }
 {}

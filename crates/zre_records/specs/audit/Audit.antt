@@ -65,7 +65,8 @@ verdict o =
     (journal Second (later o))
 
 -- all that `audit` makes of octets: nothing is written before their end, and then whether the two nodes agree, or else
--- the place where the input is bad
+-- the place where the input is bad. It is `AUDIT yes` exactly where their journals agree (law
+-- `audits_say_yes_where_journals_agree`).
 abbrev pub audit : Meaning
 audit = record {
   text = λ o. [];
