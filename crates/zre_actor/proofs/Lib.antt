@@ -10,3 +10,4 @@ pub mod Taking
 pub mod Quits
 pub mod Working
 pub mod Given
+pub mod Refused

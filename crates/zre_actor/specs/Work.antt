@@ -1,6 +1,6 @@
 -- What the actor's work comes to.
 use Rattle.std.specs.Prelude.{◌≡◌, ◌≢◌, ◌⊎◌, ℕ, ◌+◌, ◌≤◌, ◌<◌, ◌==◌, ◌&&◌, Bool, true, false, cond, nat_lt, List, []}
-use Rattle.std.specs.Prelude.{◌∷◌, ◌++◌, map, flat_map, length, All, Option, Some, option_map, IsTrue}
+use Rattle.std.specs.Prelude.{◌∷◌, ◌++◌, map, flat_map, length, All, Option, Some, option_map, IsTrue, Result, Ok, Err}
 use mathlib.Core.List.{Sublist}
 use Rattle.std.specs.Io.KnownBytes.{Appends}
 use Rattle.zre_outside.specs.declared.act.Act.{Act}
@@ -135,6 +135,26 @@ pub record Goes (turns limit : ℕ) (s t : WorkScene) (given : List Entry) (deed
 abbrev pub world_ending : NextFault → Ending
 world_ending fault.Failed = ending.WorldFault
 world_ending fault.OutOfMemory = ending.OutOfMemory
+
+-- the endings of which the world's and the recorder's refusals are the cause
+abbrev pub is_world_fault : Ending → Bool
+is_world_fault ending.WorldFault = true
+is_world_fault ending.RecordFault = false
+is_world_fault ending.Stopped = false
+is_world_fault ending.TooLong = false
+is_world_fault ending.OutOfMemory = false
+
+abbrev pub is_record_fault : Ending → Bool
+is_record_fault ending.RecordFault = true
+is_record_fault ending.WorldFault = false
+is_record_fault ending.Stopped = false
+is_record_fault ending.TooLong = false
+is_record_fault ending.OutOfMemory = false
+
+-- the recorder refused a line
+abbrev pub is_unkept : {T : Type 0} → Result T Ending → Bool
+is_unkept (Ok value) = false
+is_unkept (Err ended) = is_record_fault ended
 
 -- what each ending says: whether the node stopped, how many turns were answered, whose count rose, which entry wasn't
 -- stepped, which command wasn't handed on

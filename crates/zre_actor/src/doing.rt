@@ -6,6 +6,7 @@ ghost use Rattle.zre_outside.specs.declared.deed.Deed.{Deed as DeedValue};
 ghost use Rattle.zre_outside.specs.declared.act.Act.{Act as ActValue};
 ghost use Rattle.zre_outside.specs.declared.entry.Entry.{Entry as EntryValue};
 ghost use Rattle.zre_outside.specs.Causes.{Rose};
+ghost use Rattle.zre_outside.specs.Refusals.{refused_after};
 ghost use Rattle.zre_outside.specs.Told.{AppendsFront};
 ghost use Rattle.zre_outside.specs.Worlds.{with_deed};
 ghost use Rattle.zre_journal.specs.Asked.{AreDue, IsDueAct, IsDue};
@@ -14,7 +15,7 @@ ghost use Rattle.zre_journal.specs.Events.{chronicle};
 ghost use Rattle.zre_node.specs.Journal.{StandsFor};
 ghost use Rattle.zre_capture.specs.Lines.{line, IsEntry};
 ghost use Rattle.zre_capture.specs.declared.format.Format.TheVariants.{Second};
-ghost use Rattle.zre_actor.specs.Work.{IsDeed, DoesAll, IsRefusal, Went, Broke};
+ghost use Rattle.zre_actor.specs.Work.{IsDeed, DoesAll, IsRefusal, Went, Broke, is_unkept, is_world_fault};
 
 use crate::Ending;
 use crate::values::is_value;
@@ -60,12 +61,16 @@ impl<W: World, R: Recorder> Actor<W, R> {
             (R.kept self.old.recording.rec) (R.kept self.new.recording.rec)
             (R.faults self.old.recording.rec) (R.faults self.new.recording.rec) self.new.node x) }
         ensures world { (W.looked self.new.world ≡ W.looked self.old.world)
-            × (W.faults self.new.world ≡ W.faults self.old.world) }
+            × (W.faults self.new.world ≡ W.faults self.old.world)
+            × (W.refused self.new.world ≡ W.refused self.old.world) }
         ensures keep { self.new.recording.keep ≡ self.old.recording.keep }
         ensures unkept { self.old.recording.keep ≡ false → self.new.recording.rec ≡ self.old.recording.rec }
         ensures begun { R.begun self.new.recording.rec ≡ R.begun self.old.recording.rec }
         ensures named { Keeps (R.named self.old.recording.rec) (R.named self.new.recording.rec) }
         ensures later { R.faults self.old.recording.rec ≤ R.faults self.new.recording.rec }
+        ensures counts { R.refused self.new.recording.rec
+            ≡ refused_after (is_unkept result) (R.refused self.old.recording.rec) }
+        ensures inside { IfErr result (λ x. is_world_fault x ≡ false) }
         ensures value { IsEntry entry }
     {
         is_value(&entry);
@@ -99,6 +104,8 @@ impl<R: Recorder> Recording<R> {
         ensures begun { R.begun self.new.rec ≡ R.begun self.old.rec }
         ensures named { Keeps (R.named self.old.rec) (R.named self.new.rec) }
         ensures later { R.faults self.old.rec ≤ R.faults self.new.rec }
+        ensures counts { R.refused self.new.rec ≡ refused_after (is_unkept result) (R.refused self.old.rec) }
+        ensures inside { IfErr result (λ x. is_world_fault x ≡ false) }
     {
         if self.keep {
             put_line(&mut self.rec, &mut self.buffer, self.before, entry)
@@ -122,6 +129,8 @@ fn put_line<R: Recorder>(
     ensures begun { R.begun rec.new ≡ R.begun rec.old }
     ensures named { Keeps (R.named rec.old) (R.named rec.new) }
     ensures later { R.faults rec.old ≤ R.faults rec.new }
+    ensures counts { R.refused rec.new ≡ refused_after (is_unkept result) (R.refused rec.old) }
+    ensures inside { IfErr result (λ x. is_world_fault x ≡ false) }
 {
     buffer.clear();
     let Ok(()) = push_entry2(buffer, before, entry) else {
@@ -138,7 +147,8 @@ fn put_line<R: Recorder>(
 fn do_all<W: World>(world: &mut W, node: &Node, acts: &[Act]) -> bool
     ensures done { (g : Config) (J : List EntryValue) → StandsFor g J node.now → AreDue g (chronicle g J) acts.now
         → DoesAll g J acts.now result (W.told world.old) (W.told world.new) }
-    ensures world { (W.looked world.new ≡ W.looked world.old) × (W.faults world.new ≡ W.faults world.old) }
+    ensures world { (W.looked world.new ≡ W.looked world.old) × (W.faults world.new ≡ W.faults world.old)
+        × (W.refused world.new ≡ W.refused world.old) }
 {
     for act in acts {
         if !do_one(world, node, act) {
@@ -154,7 +164,8 @@ fn do_one<W: World>(world: &mut W, node: &Node, act: &Act) -> bool
         → result ≡ true →
         (d : DeedValue) × IsDeed g J act.now d × (W.told world.new ≡ option_map (with_deed d) (W.told world.old)) }
     ensures undone { result ≡ false → W.told world.new ≡ W.told world.old }
-    ensures world { (W.looked world.new ≡ W.looked world.old) × (W.faults world.new ≡ W.faults world.old) }
+    ensures world { (W.looked world.new ≡ W.looked world.old) × (W.faults world.new ≡ W.faults world.old)
+        × (W.refused world.new ≡ W.refused world.old) }
 {
     match act {
         Act::Offer { link } => offer_front(world, node, *link),
@@ -170,7 +181,8 @@ fn offer_front<W: World>(world: &mut W, node: &Node, link: u64) -> bool
         (d : DeedValue) × IsDeed g J (ActValue.Offer link) d
         × (W.told world.new ≡ option_map (with_deed d) (W.told world.old)) }
     ensures undone { result ≡ false → W.told world.new ≡ W.told world.old }
-    ensures world { (W.looked world.new ≡ W.looked world.old) × (W.faults world.new ≡ W.faults world.old) }
+    ensures world { (W.looked world.new ≡ W.looked world.old) × (W.faults world.new ≡ W.faults world.old)
+        × (W.refused world.new ≡ W.refused world.old) }
 {
     let Some(bytes) = node.front(link) else {
         return true;

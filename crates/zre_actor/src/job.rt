@@ -32,10 +32,11 @@ impl<W: World + Send + Drop + 'static, R: Recorder + Send + Drop + 'static> Task
     ghost use Rattle.std.specs.Arc.{arc_value};
     ghost use Rattle.std.specs.Io.KnownBytes.{Keeps};
     ghost use Rattle.zre_outside.specs.declared.entry.Entry.{Entry};
+    ghost use Rattle.zre_outside.specs.Refusals.{refused_after};
     ghost use Rattle.zre_values.specs.declared.settings.Settings.{Settings as Config};
     ghost use Rattle.zre_node.specs.Journal.{StandsFor};
     ghost use Rattle.zre_actor.specs.Passes.{IsActorOf, unused_by, ending_of};
-    ghost use Rattle.zre_actor.specs.Work.{IsWork, scene};
+    ghost use Rattle.zre_actor.specs.Work.{IsWork, scene, is_world_fault, is_record_fault};
 
     type Out = Worked<W, R>;
 
@@ -49,7 +50,9 @@ impl<W: World + Send + Drop + 'static, R: Recorder + Send + Drop + 'static> Task
         (R.kept job.rec) (R.faults job.rec) job.pass)
         (scene (W.told out.world) (W.looked out.world) (W.faults out.world)
         (R.kept out.rec) (R.faults out.rec) out.pass)
-        out.node out.ending) };
+        out.node out.ending)
+        × (W.refused out.world ≡ refused_after (is_world_fault out.ending) (W.refused job.world))
+        × (R.refused out.rec ≡ refused_after (is_record_fault out.ending) (R.refused job.rec)) };
 }
 
 impl<T: Wait + Copy, W: World + Send + Drop + 'static, R: Recorder + Send + Drop + 'static> Job<T>

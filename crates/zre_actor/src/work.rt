@@ -3,13 +3,14 @@
 ghost use Rattle.std.specs.Prelude.{◌≡◌, ◌≤◌, ◌<◌, ◌+◌, ◌++◌, ◌^◌, [], List, true, false, None, Some, cond};
 ghost use Rattle.std.specs.Io.KnownBytes.{Keeps};
 ghost use Rattle.zre_outside.specs.declared.entry.Entry.{Entry as EntryValue};
+ghost use Rattle.zre_outside.specs.Refusals.{refused_after};
 ghost use Rattle.zre_values.specs.declared.settings.Settings.{Settings as Config};
 ghost use Rattle.zre_journal.specs.Events.{chronicle};
 ghost use Rattle.zre_journal.specs.Happens.{has_stopped};
 ghost use Rattle.zre_node.specs.Journal.{StandsFor};
 ghost use Rattle.zre_actor.specs.declared.ending.Ending.TheVariants as ending;
 ghost use Rattle.zre_actor.specs.Passes.{IsActorOf, popped_by, raised_by, unused_by, ending_of};
-ghost use Rattle.zre_actor.specs.Work.{IsWork, scene, world_ending};
+ghost use Rattle.zre_actor.specs.Work.{IsWork, scene, world_ending, is_world_fault, is_record_fault};
 
 use crate::doing::{Actor, Recording};
 use crate::passes::{ActorPass, Pipes};
@@ -56,6 +57,9 @@ impl Pipes {
         ensures unkept { keep ≡ false → result.rec ≡ rec }
         ensures begun { R.begun result.rec ≡ R.begun rec }
         ensures named { Keeps (R.named rec) (R.named result.rec) }
+        // It ends where the world or the recorder refused a call, so that no further one is made.
+        ensures counts { (W.refused result.world ≡ refused_after (is_world_fault result.ending) (W.refused world))
+            × (R.refused result.rec ≡ refused_after (is_record_fault result.ending) (R.refused rec)) }
         ensures work { (g : Config) (K : List EntryValue) → StandsFor g K node → IsWork g K keep limit
             (scene (W.told world) (W.looked world) (W.faults world) (R.kept rec) (R.faults rec) pass)
             (scene (W.told result.world) (W.looked result.world) (W.faults result.world)
@@ -174,8 +178,9 @@ fn ending_by(fault: NextFault) -> Ending
 
 // The ending where all turns were taken.
 fn last_ending(node: &Node) -> Ending
-    ensures { (g : Config) (K : List EntryValue) → StandsFor g K node.now
+    ensures stopped { (g : Config) (K : List EntryValue) → StandsFor g K node.now
         → result ≡ cond (has_stopped (chronicle g K)) ending.Stopped ending.TooLong }
+    ensures inside { (is_world_fault result ≡ false) × (is_record_fault result ≡ false) }
 {
     if node.stopped() {
         Ending::Stopped

@@ -1,6 +1,5 @@
 -- Where nothing fails, a command does all that it is asked for, unless memory runs out.
 use Rattle.std.proofs.Common.{◌≡◌, ◌⊎◌, ℕ, ◌<◌, Bool, true, false, List, [], ◌∷◌, ◌++◌, length, Option, Some, None, inl, inr, refl, sym, ap, ◌∙◌, subst, arith, append-nil, length-append}
-use Rattle.std.specs.Prelude.{nat_le, if◌then◌else◌}
 use Rattle.std.specs.Io.KnownBytes.{Appends, Consumes, IsAtEnd}
 use Rattle.zre_commands.specs.declared.pump.status.Status.{Status}
 use Rattle.zre_commands.specs.declared.pump.status.Status.TheVariants.{Done, Usage, BadInput, ReadFault, WriteFault, WorldFault, NoThread, TooLong, OutOfMemory, DeskFault}
@@ -8,8 +7,7 @@ use Rattle.zre_commands.specs.pump.Meaning.{Meaning, KeepsRefusing, whole_text}
 use Rattle.zre_commands.specs.pump.Outcome.{Outcome}
 use Rattle.zre_commands.proofs.Refusing.{show_refuses, follow_refuses}
 use Rattle.zre_records.proofs.Refusing.{capture_refuses, audit_refuses, simulate_refuses}
-use Rattle.zre_chat.specs.Chat.{Seen, IsCaused, AreCaused}
-use Rattle.zre_chat.specs.Statuses.{rank, least}
+use Rattle.zre_chat.specs.Chat.{Seen, IsCaused}
 use Rattle.zre_capture.specs.declared.format.Format.TheVariants.{First, Second}
 use Rattle.zre_app.specs.declared.command.Command.{Command}
 use Rattle.zre_app.specs.declared.command.Command.TheVariants.{Plain, Chat}
@@ -112,18 +110,6 @@ spared Usage limit octets turns stopped s t cause none few early = absurd cause
 spared BadInput limit octets turns stopped s t cause none few early = absurd cause
 spared DeskFault limit octets turns stopped s t cause none few early = absurd cause
 
-pub either_spares : (b : Bool) (x y : Status) → Spares x → Spares y → Spares (if b then x else y)
-either_spares true x y p q = p
-either_spares false x y p q = q
-
-least_spares : (xs : List Status) (limit : ℕ) (octets : List ℕ) (turns : ℕ) (stopped : Bool) (s t : Seen)
-    → AreCaused xs limit octets turns stopped s t → NoneRose s t → length octets < limit → turns < limit → Spares (least xs)
-least_spares [] limit octets turns stopped s t caused none few early = inl refl
-least_spares (x ∷ xs) limit octets turns stopped s t caused none few early =
-    either_spares (nat_le (rank x) (rank (least xs))) x (least xs)
-    (spared x limit octets turns stopped s t caused.0 none few early)
-    (least_spares xs limit octets turns stopped s t caused.1 none few early)
-
 pub well_or_short : (status : Status) (all : Type 0) → Spares status → (status ≡ Done → all) → WellOrShort status all
 well_or_short status all (inl done) whole = inl (done, whole done)
 well_or_short status all (inr short) whole = inr short
@@ -133,7 +119,7 @@ completes None limit status s t does = tt
 completes (Some (Plain p)) limit status s t does = plain_completes p limit status (streams_of s) (streams_of t) does
 completes (Some (Chat c)) limit status s t does = λ chat none few early.
     well_or_short status _
-    (subst Spares (sym chat.is_status) (least_spares chat.occurred limit chat.octets chat.lived.turns _ s t chat.caused none few early))
+    (spared status limit chat.octets chat.lived.turns _ s t chat.caused none few early)
     (λ done. chat.wrote.whole (inl done))
 
 -- any call does

@@ -1,24 +1,23 @@
 -- Where nothing but clients fails, a gate does all that it is asked for, unless memory runs out.
 use Rattle.std.proofs.Common.{◌≡◌, ℕ, ◌<◌, Bool, false, List, [], ◌∷◌, map, Option, Some, None, inl, inr, refl, sym, subst, arith}
-use Rattle.std.specs.Prelude.{nat_le, All}
+use Rattle.std.specs.Prelude.{All}
 use Rattle.std.proofs.KnownBytes.{Appends-nil}
 use Rattle.std.proofs.lemmas.List.Elements.{All-contains}
 use Rattle.zre_outside.specs.Desks.{Register}
 use Rattle.zre_commands.specs.declared.pump.status.Status.{Status}
 use Rattle.zre_commands.specs.declared.pump.status.Status.TheVariants.{Done, Usage, BadInput, ReadFault, WriteFault, WorldFault, NoThread, TooLong, OutOfMemory, DeskFault}
 use Rattle.zre_chat.specs.Chat.{Seen}
-use Rattle.zre_chat.specs.Statuses.{rank, least}
 use Rattle.zre_chat.proofs.Rows.{memory_isnt}
 use Rattle.zre_chat.proofs.Whole.{none_started}
 use Rattle.zre_gate.specs.Clients.{ClientRow}
-use Rattle.zre_gate.specs.Gate.{Client, IsCaused, AreCaused, IsGate}
+use Rattle.zre_gate.specs.Gate.{Client, IsCaused, IsGate}
 use Rattle.zre_gate.specs.declared.gate.Gate.{Gate}
 use Rattle.zre_gate.proofs.Attended.{not_attended}
 use Rattle.zre_gate.proofs.Unopened.{unopened}
 use Rattle.zre_app.specs.Complete.{NoneRose, IsBelow, CompletesGate}
 use Rattle.zre_app.specs.DoesGate.{DoesGate}
 use Rattle.zre_app.specs.Usage.{usage_line}
-use Rattle.zre_app.proofs.Complete.{Spares, either_spares, well_or_short}
+use Rattle.zre_app.proofs.Complete.{Spares, well_or_short}
 
 module _ (limit : ℕ) (clients : List Client) (turns : ℕ) (stopped : Bool) (s t : Seen) (desk : Type 0) (none : NoneRose s t) (held : ¬ desk) (few : All (IsBelow limit) clients) (early : turns < limit) where
   -- nothing else has a cause
@@ -37,14 +36,10 @@ module _ (limit : ℕ) (clients : List Client) (turns : ℕ) (stopped : Bool) (s
   spared BadInput cause = absurd cause
   spared ReadFault cause = absurd cause
 
-  least_spares : (xs : List Status) → AreCaused xs limit clients turns stopped s t desk → Spares (least xs)
-  least_spares [] caused = inl refl
-  least_spares (x ∷ xs) caused = either_spares (nat_le (rank x) (rank (least xs))) x (least xs) (spared x caused.0) (least_spares xs caused.1)
-
 pub gate_completes : (g : Option Gate) (limit : ℕ) (status : Status) (s t : Seen) (desk : Type 0) → CompletesGate g limit status s t desk
 gate_completes None limit status s t desk = tt
 gate_completes (Some g) limit status s t desk = λ before after gate served none whole few early.
-    well_or_short status _ (subst Spares (sym served.is_status) (least_spares limit served.clients gate.lived.turns _ s t desk none whole few early served.occurred served.caused))
+    well_or_short status _ (spared limit served.clients gate.lived.turns _ s t desk none whole few early status served.caused)
     (λ done. gate.wrote.whole (inl done))
 
 -- a call that found no memory at its start

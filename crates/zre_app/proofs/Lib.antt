@@ -3,3 +3,4 @@ pub mod CompleteGate
 pub mod KeyPairs
 pub mod Ledgers
 pub mod Unread
+mod Refusing

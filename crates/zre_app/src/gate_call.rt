@@ -2,6 +2,8 @@
 
 ghost use Rattle.std.specs.Prelude.{◌≡◌, ◌≤◌, [], None, Some, option_and_then};
 ghost use Rattle.zre_outside.specs.Causes.{Rose};
+ghost use Rattle.zre_chat.specs.Statuses.{IsFirst, Yields};
+ghost use Rattle.zre_commands.specs.declared.pump.status.Status.TheVariants.{DeskFault};
 ghost use Rattle.zre_gate.specs.Clients.{row};
 ghost use Rattle.zre_gate.specs.Gate.{seen_beside};
 ghost use Rattle.zre_app.specs.Complete.{CompletesGate};
@@ -39,13 +41,19 @@ where
     O: Sink,
     R: Recorder + Send + Drop + 'static,
     P: Spawner,
-    ensures does { DoesGate (row D.Client.left D.Client.taken D.Client.faults) (gate_of words.now) limit result.status
+    ensures does { DoesGate (row D.Client.left D.Client.taken D.Client.faults D.Client.refused)
+        (gate_of words.now) limit result.status
         (D.told desk) (D.told result.desk)
         (seen_beside (W.told world) (W.faults world) (O.written out.old) (O.faults out.old)
         (R.kept rec) (R.named rec) (R.faults rec) (P.faults spawner.old))
         (seen_beside (W.told result.world) (W.faults result.world) (O.written out.new) (O.faults out.new)
         (R.kept result.rec) (R.named result.rec) (R.faults result.rec) (P.faults spawner.new))
         (Rose (D.faults desk) (D.faults result.desk)) result.clients.items }
+    // Where what is handed in tells the calls that it refused, the status is the first of what occurred.
+    ensures first { IsFirst result.status (O.refused out.new ≡ O.refused out.old)
+        (R.refused result.rec ≡ R.refused rec) (W.refused result.world ≡ W.refused world)
+        (P.faults spawner.new ≡ P.faults spawner.old)
+        × Yields result.status DeskFault (D.refused result.desk ≡ D.refused desk) }
     // Where nothing but clients fails, all is done, or memory ran out.
     ensures complete { CompletesGate (gate_of words.now) limit result.status
         (seen_beside (W.told world) (W.faults world) (O.written out.old) (O.faults out.old)

@@ -1,8 +1,11 @@
 //! The commands that read a source and write to a sink, and have to do with nothing else.
 
-ghost use Rattle.std.specs.Prelude.{◌≡◌, ◌≤◌, [], true, false, Some, IfSome};
+ghost use Rattle.std.specs.Prelude.{◌≡◌, ◌≢◌, ◌≤◌, [], true, false, Some, IfSome};
 ghost use Rattle.zre_outside.specs.Causes.{Rose};
 ghost use Rattle.zre_values.specs.Settings.{is_valid};
+ghost use Rattle.zre_chat.specs.Statuses.{Yields};
+ghost use Rattle.zre_commands.specs.declared.pump.status.Status.TheVariants.{ReadFault, WriteFault};
+ghost use Rattle.zre_commands.specs.pump.Outcome.{IsByRefusal};
 ghost use Rattle.zre_commands.specs.exercise.Exercise.{text as exercise_text};
 ghost use Rattle.zre_app.specs.Does.{DidPlain, DoesWork};
 ghost use Rattle.zre_app.specs.Does.Work.{Reads};
@@ -36,6 +39,8 @@ pub struct PlainEnded<I> {
 pub(crate) fn usage<O: Sink>(out: &mut O) -> Status
     ensures written { UsageOutcome result (O.written out.old) (O.written out.new)
         (Rose (O.faults out.old) (O.faults out.new)) }
+    ensures first { Yields result WriteFault (O.refused out.new ≡ O.refused out.old) }
+    ensures unread { result ≢ ReadFault }
     ensures writes { O.faults out.old ≤ O.faults out.new }
 {
     match write_all(out, b"USAGE\n") {
@@ -60,6 +65,8 @@ fn reads<M: Machine + Drop, I: Source, O: Sink>(
     ensures does { DoesWork (Reads (M.says machine)) limit result
         (streams (stream_views I.left I.taken I.faults O.written O.faults) input.old out.old)
         (streams (stream_views I.left I.taken I.faults O.written O.faults) input.new out.new) }
+    // After a refused read nothing more is read.
+    ensures refused { IsByRefusal result (I.refused input.old) (I.refused input.new) }
     // Counts of faults never fall.
     ensures reads { I.faults input.old ≤ I.faults input.new }
     ensures writes { O.faults out.old ≤ O.faults out.new }
@@ -77,6 +84,7 @@ fn replay<I: Source, O: Sink>(
     requires { is_valid config ≡ true }
     ensures does { DidPlain (stream_views I.left I.taken I.faults O.written O.faults)
         (Some (Plain.Replay config)) limit result input.old input.new out.old out.new }
+    ensures refused { IsByRefusal result (I.refused input.old) (I.refused input.new) }
 {
     match Replayer::new(alloc, config) {
         Ok(machine) => reads(alloc, machine, input, out, limit),
@@ -87,6 +95,7 @@ fn replay<I: Source, O: Sink>(
 fn write_text<O: Sink>(text: &[u8], out: &mut O) -> Status
     ensures written { WritesText result text.now (O.written out.old) (O.written out.new)
         (Rose (O.faults out.old) (O.faults out.new)) }
+    ensures unread { result ≢ ReadFault }
     ensures writes { O.faults out.old ≤ O.faults out.new }
 {
     match write_all(out, text) {
@@ -104,6 +113,7 @@ fn exercise<O: Sink>(alloc: Global, seed: u64, peers: u16, messages: u32, out: &
     // What was written, and the status.
     ensures written { WritesText result (exercise_text seed peers messages) (O.written out.old) (O.written out.new)
         (Rose (O.faults out.old) (O.faults out.new)) }
+    ensures unread { result ≢ ReadFault }
     ensures writes { O.faults out.old ≤ O.faults out.new }
 {
     let mut summary = Octets::new(alloc);
@@ -124,6 +134,7 @@ fn obey<I: Source, O: Sink>(
     requires { IfSome command CanDo }
     ensures does { DidPlain (stream_views I.left I.taken I.faults O.written O.faults)
         command limit result input.old input.new out.old out.new }
+    ensures refused { IsByRefusal result (I.refused input.old) (I.refused input.new) }
 {
     match command {
         None => usage(out),
@@ -165,6 +176,8 @@ pub fn plain<I: Source, O: Sink>(
     requires { is_chat words.now ≡ false }
     ensures does { DidPlain (stream_views I.left I.taken I.faults O.written O.faults)
         (plain_of words.now) limit result.status input result.input out.old out.new }
+    // Where the source tells the reads that it refused, nothing more is read after one.
+    ensures refused { IsByRefusal result.status (I.refused input) (I.refused result.input) }
 {
     match plain_of(alloc, words) {
         Ok(command) => {

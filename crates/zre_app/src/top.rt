@@ -4,7 +4,9 @@
 ghost use Rattle.zre_app.specs.Complete.{Completes};
 ghost use Rattle.zre_app.specs.Does.{Did, KeepsItsLedgers};
 ghost use Rattle.zre_app.specs.Given.{handed, seen_of, stream_views, views};
-ghost use Rattle.zre_app.specs.Words.{command_of};
+ghost use Rattle.std.specs.Prelude.{◌≡◌, true};
+ghost use Rattle.zre_chat.specs.Statuses.{IsFirst, IsReadSo};
+ghost use Rattle.zre_app.specs.Words.{command_of, is_chat};
 
 use crate::chat_words::chat_of;
 use crate::command::is_chat;
@@ -47,6 +49,12 @@ pub fn run<
         W.told W.faults R.kept R.named R.faults P.faults)
         (command_of words.now) limit result.status (handed input world out.old rec spawner.old)
         (handed result.input result.world out.new result.rec spawner.new) }
+    // Where what is handed in tells the calls that it refused, nothing more is read after a refused read, and the
+    // status of a chat is the first of what occurred.
+    ensures read { IsReadSo result.status (I.refused input) (I.refused result.input) }
+    ensures first { is_chat words.now ≡ true → IsFirst result.status (O.refused out.new ≡ O.refused out.old)
+        (R.refused result.rec ≡ R.refused rec) (W.refused result.world ≡ W.refused world)
+        (P.faults spawner.new ≡ P.faults spawner.old) }
     ensures ledgers { KeepsItsLedgers (command_of words.now) }
     ensures complete { Completes (command_of words.now) limit result.status
         (seen_of (views (stream_views I.left I.taken I.faults O.written O.faults)
@@ -81,6 +89,12 @@ fn dispatch<
         W.told W.faults R.kept R.named R.faults P.faults)
         (command_of words.now) limit result.status (handed input world out.old rec spawner.old)
         (handed result.input result.world out.new result.rec spawner.new) }
+    // Where what is handed in tells the calls that it refused, nothing more is read after a refused read, and the
+    // status of a chat is the first of what occurred.
+    ensures read { IsReadSo result.status (I.refused input) (I.refused result.input) }
+    ensures first { is_chat words.now ≡ true → IsFirst result.status (O.refused out.new ≡ O.refused out.old)
+        (R.refused result.rec ≡ R.refused rec) (W.refused result.world ≡ W.refused world)
+        (P.faults spawner.new ≡ P.faults spawner.old) }
 {
     if !is_chat(words) {
         let PlainEnded { status, input } = plain(alloc, words, input, out, limit);
@@ -130,6 +144,12 @@ pub fn zre<
         W.told W.faults R.kept R.named R.faults P.faults)
         (command_of words.now) LIMIT result.status (handed input world out.old rec spawner.old)
         (handed result.input result.world out.new result.rec spawner.new) }
+    // Where what is handed in tells the calls that it refused, nothing more is read after a refused read, and the
+    // status of a chat is the first of what occurred.
+    ensures read { IsReadSo result.status (I.refused input) (I.refused result.input) }
+    ensures first { is_chat words.now ≡ true → IsFirst result.status (O.refused out.new ≡ O.refused out.old)
+        (R.refused result.rec ≡ R.refused rec) (W.refused result.world ≡ W.refused world)
+        (P.faults spawner.new ≡ P.faults spawner.old) }
     ensures ledgers { KeepsItsLedgers (command_of words.now) }
     ensures complete { Completes (command_of words.now) LIMIT result.status
         (seen_of (views (stream_views I.left I.taken I.faults O.written O.faults)

@@ -1,6 +1,7 @@
 pub mod Asker
 pub mod Callers
 pub mod Early
+pub mod First
 pub mod Fronts
 pub mod Living
 pub mod Merged

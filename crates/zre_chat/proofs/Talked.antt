@@ -39,6 +39,7 @@ use Rattle.zre_chat.specs.Statuses.{least, of_read, of_print, of_work, of_thread
 use Rattle.zre_chat.proofs.Fronts.{prefix_trans, quits_through, all_front, none_front, short_front, breaks_front, breaks_by}
 use Rattle.zre_chat.proofs.Merged.{all_under}
 use Rattle.zre_chat.proofs.Asker.{asked_few, asker_put}
+use Rattle.zre_chat.proofs.First.{least_holds, rest_holds}
 use Rattle.zre_chat.proofs.Living as living
 use Rattle.zre_chat.proofs.Parts as parts
 use Rattle.zre_chat.proofs.Parts.{read_ended}
@@ -156,7 +157,6 @@ module _ (g : Config) (start : Start) (name : Option (List ℕ)) (keep : Bool) (
     wrote = living.wrote g start name keep limit s u t p n how looked looked' actor actor' w named none_popped none_raised (asker_of asker refused) asker' taker taker' broke d write_rose none_taken all_taken status both well;
     captured = living.captured g start name keep limit s u t p n how looked looked' actor actor' w named none_popped none_raised (asker_of asker refused) asker' taker taker' broke d write_rose none_taken all_taken status both well;
     ordered = record { in_order = in_order; are_front = are_front; all_handed = all_handed; ended = input_ended };
-    occurred = statuses;
-    is_status = refl;
-    caused = (read_cause stop r.outcome w.turns (has_stopped (chronicle g w.entries)), (rest_cause.0, (rest_cause.1, (rest_cause.2, tt))));
+    caused = least_holds Needs (of_read stop) (of_print broke ∷ of_work how ∷ of_thread refused ∷ []) (read_cause stop r.outcome w.turns (has_stopped (chronicle g w.entries)))
+        (rest_holds Needs broke how refused rest_cause.0 rest_cause.1 rest_cause.2 tt);
   }

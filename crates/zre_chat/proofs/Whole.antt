@@ -38,7 +38,7 @@ use Rattle.zre_chat.specs.Stages.{IsEarly, HasOpened, Prepared, Unprepared}
 use Rattle.zre_chat.specs.Statuses.{of_read}
 use Rattle.zre_chat.proofs.Fronts.{map-prefix, quits_through, none_before, breaks_front, breaks_by, breaks_plain, orders_break, quit_front, cut_breaks}
 use Rattle.zre_chat.proofs.Merged.{all_under, its_own, no_others, commands_under, prefix_nil, TwoAlone, split, alone}
-use Rattle.zre_chat.proofs.Rows.{write_isnt, world_isnt, memory_isnt, one_least}
+use Rattle.zre_chat.proofs.Rows.{write_isnt, world_isnt, memory_isnt}
 
 -- ---- what a world tells, over two steps
 
@@ -124,9 +124,7 @@ module _ (g : Config) (start : Start) (name : Option (List ℕ)) (limit : ℕ) w
       all_handed = λ d. absurd (not_done d);
       ended = λ d. absurd (not_done d);
     };
-    occurred = status ∷ [];
-    is_status = one_least status;
-    caused = (cause, tt);
+    caused = cause;
   }
 
 module _ (g : Config) (start : Start) (name : Option (List ℕ)) (limit : ℕ) (settings : AreSettings g) where

@@ -1,5 +1,5 @@
 -- What a chat comes to.
-use Rattle.std.specs.Prelude.{◌≡◌, ◌≢◌, ◌⊎◌, ℕ, ◌+◌, ◌≤◌, ◌<◌, Bool, true, false, List, [], ◌∷◌, ◌++◌, length, All}
+use Rattle.std.specs.Prelude.{◌≡◌, ◌≢◌, ◌⊎◌, ℕ, ◌+◌, ◌≤◌, ◌<◌, Bool, true, false, List, [], ◌++◌, length, All}
 use Rattle.std.specs.Prelude.{Option, Some, option_map, ⊤}
 use mathlib.Core.List.{IsPrefix, Sublist}
 use Rattle.std.specs.List.{list_any}
@@ -29,7 +29,6 @@ use Rattle.zre_commands.specs.declared.pump.status.Status.{Status}
 use Rattle.zre_commands.specs.declared.pump.status.Status.TheVariants.{Done, Usage, BadInput, ReadFault, WriteFault}
 use Rattle.zre_commands.specs.declared.pump.status.Status.TheVariants.{WorldFault, NoThread, TooLong, OutOfMemory}
 use Rattle.zre_commands.specs.declared.pump.status.Status.TheVariants.{DeskFault}
-use Rattle.zre_chat.specs.Statuses.{least}
 
 -- what is seen of all that a chat works with, at one moment
 pub record Seen : Type 0 where
@@ -81,12 +80,6 @@ IsCaused OutOfMemory limit octets turns stopped s t = ⊤
 IsCaused Usage limit octets turns stopped s t = ⊥
 IsCaused BadInput limit octets turns stopped s t = ⊥
 IsCaused DeskFault limit octets turns stopped s t = ⊥
-
--- all of these
-abbrev pub AreCaused : List Status → (limit : ℕ) (octets : List ℕ) (turns : ℕ) (stopped : Bool) → Seen → Seen → Type 0
-AreCaused [] limit octets turns stopped s t = ⊤
-AreCaused (x ∷ xs) limit octets turns stopped s t =
-    IsCaused x limit octets turns stopped s t × AreCaused xs limit octets turns stopped s t
 
 -- all went well, or memory didn't run out and this count of faults didn't rise
 abbrev pub IsSpared : Status → (rose : Type 0) → Type 0
@@ -176,7 +169,5 @@ pub record IsChat (g : Config) (start : Start) (name : Option (List ℕ)) (limit
   pub wrote : Wrote g lived.entries s t status
   pub captured : Captured g name lived.entries s t status
   pub ordered : Ordered limit octets lived.handed t.left status
-  -- the status is the first of what occurred, each with its cause
-  pub occurred : List Status
-  pub is_status : status ≡ least occurred
-  pub caused : AreCaused occurred limit octets lived.turns (has_stopped (chronicle g lived.entries)) s t
+  -- the status has its cause
+  pub caused : IsCaused status limit octets lived.turns (has_stopped (chronicle g lived.entries)) s t

@@ -1,13 +1,15 @@
 //! The whole call, with its order of starts.
 
-ghost use Rattle.std.specs.Prelude.{◌≡◌, ◌≤◌, [], true, None, IfSome, IfOk, IfErr, OnOk};
+ghost use Rattle.std.specs.Prelude.{◌≡◌, ◌≢◌, ◌≤◌, [], true, None, IfSome, IfOk, IfErr, OnOk};
 ghost use Rattle.std.specs.Str.{is_utf8};
 ghost use Rattle.zre_outside.specs.Causes.{Rose};
 ghost use Rattle.zre_values.specs.Settings.{is_valid};
 ghost use Rattle.zre_node.specs.Journal.{StandsFor};
 ghost use Rattle.zre_chat.specs.Chat.{IsChat, seen};
 ghost use Rattle.zre_chat.specs.Stages.{HasOpened, Unprepared};
+ghost use Rattle.zre_chat.specs.Statuses.{IsFirst, IsReadSo, Yields};
 ghost use Rattle.zre_chat.specs.Tables.{IsLaid, HasMore};
+ghost use Rattle.zre_commands.specs.declared.pump.status.Status.TheVariants.{ReadFault, WriteFault, WorldFault};
 
 use crate::entering::enter;
 use crate::keeping::begin;
@@ -76,6 +78,11 @@ impl Chat {
             (W.told result.world) (W.faults result.world) (O.written out.new) (O.faults out.new)
             (R.kept result.rec) (R.named result.rec) (R.faults result.rec) (P.faults spawner.new))
             result.status }
+        // The status is the first of what occurred.
+        ensures first { IsFirst result.status (O.refused out.new ≡ O.refused out.old)
+            (R.refused result.rec ≡ R.refused rec) (W.refused result.world ≡ W.refused world)
+            (P.faults spawner.new ≡ P.faults spawner.old) }
+        ensures read { IsReadSo result.status (I.refused input) (I.refused result.input) }
         // What isn't used comes back as it was; counts of faults never fall.
         ensures unkept { self.capture ≡ None → result.rec ≡ rec }
         ensures later { (I.faults input ≤ I.faults result.input) × (O.faults out.old ≤ O.faults out.new)
@@ -126,6 +133,12 @@ fn prepare<W: World, R: Recorder>(
     ensures refused { IfErr result (λ status. Unprepared chat.config chat.start chat.capture status
         (W.told world.old) (W.told world.new) (R.kept rec.old) (R.kept rec.new) (R.named rec.old) (R.named rec.new)
         ⊥ (Rose (W.faults world.old) (W.faults world.new)) (Rose (R.faults rec.old) (R.faults rec.new))) }
+    // Where one of them refused a call, that is the status, unless memory ran out.
+    ensures counts { OnOk result ((W.refused world.new ≡ W.refused world.old)
+        × (R.refused rec.new ≡ R.refused rec.old)) }
+    ensures first { IfErr result (λ status. Yields status WorldFault (W.refused world.new ≡ W.refused world.old)
+        × Yields status WriteFault (R.refused rec.new ≡ R.refused rec.old)) }
+    ensures unread { IfErr result (λ status. status ≢ ReadFault) }
 {
     let Chat {
         config,

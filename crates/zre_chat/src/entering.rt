@@ -1,11 +1,13 @@
 //! The node goes on the network.
 
-ghost use Rattle.std.specs.Prelude.{◌≡◌, ◌≤◌, [], true, option_map, IfOk, IfErr, OnOk};
+ghost use Rattle.std.specs.Prelude.{◌≡◌, ◌≢◌, ◌≤◌, [], true, option_map, IfOk, IfErr, OnOk};
 ghost use Rattle.zre_outside.specs.Causes.{Rose};
 ghost use Rattle.zre_outside.specs.Worlds.{with_start};
 ghost use Rattle.zre_values.specs.Settings.{is_valid};
 ghost use Rattle.zre_node.specs.Journal.{StandsFor};
+ghost use Rattle.zre_commands.specs.declared.pump.status.Status.TheVariants.{ReadFault, WorldFault};
 ghost use Rattle.zre_chat.specs.Stages.{IsOutside};
+ghost use Rattle.zre_chat.specs.Statuses.{Yields};
 ghost use Rattle.zre_chat.specs.Tables.{IsLaid, HasMore};
 
 use crate::statuses::of_fault;
@@ -35,6 +37,10 @@ pub fn enter<W: World>(
     ensures later { W.faults world.old ≤ W.faults world.new }
     ensures refused { IfErr result (λ status. IsOutside start.now status (W.told world.old) (W.told world.new)
         (Rose (W.faults world.old) (W.faults world.new))) }
+    // Where it refused to be started, that is the status, unless memory ran out.
+    ensures counts { OnOk result (W.refused world.new ≡ W.refused world.old) }
+    ensures first { IfErr result (λ status. Yields status WorldFault (W.refused world.new ≡ W.refused world.old)) }
+    ensures unread { IfErr result (λ status. status ≢ ReadFault) }
 {
     if let Err(fault) = world.start(start) {
         return Err(of_fault(fault, Status::WorldFault));

@@ -1,11 +1,14 @@
 //! The capture is begun.
 
-ghost use Rattle.std.specs.Prelude.{◌≡◌, ◌≤◌, ℕ, List, Option, None, Some, true, is_ok, IfSome, IfOk, IfErr, OnOk};
+ghost use Rattle.std.specs.Prelude.{◌≡◌, ◌≢◌, ◌≤◌, ℕ, List, Option, None, Some, true, is_ok, IfSome, IfOk, IfErr, OnOk};
 ghost use Rattle.std.specs.Prelude.{IsErrOf};
 ghost use Rattle.std.specs.Str.{is_utf8};
-ghost use Rattle.zre_outside.specs.Causes.{Rose};
+ghost use Rattle.zre_outside.specs.Causes.{Rose, is_failed};
+ghost use Rattle.zre_outside.specs.Refusals.{refused_after};
+ghost use Rattle.zre_commands.specs.declared.pump.status.Status.TheVariants.{ReadFault, WriteFault};
 ghost use Rattle.zre_chat.specs.Keeping.{head_of, Begins};
 ghost use Rattle.zre_chat.specs.Stages.{IsEarly};
+ghost use Rattle.zre_chat.specs.Statuses.{Yields};
 
 use crate::statuses::of_fault;
 use std::alloc::Global;
@@ -29,6 +32,7 @@ fn begin_named<R: Recorder>(rec: &mut R, name: &str, head: &[u8]) -> Result<(), 
         (R.named rec.old) (R.named rec.new)) }
     ensures later { R.faults rec.old ≤ R.faults rec.new }
     ensures failed { IsErrOf result NextFault.Failed → Rose (R.faults rec.old) (R.faults rec.new) }
+    ensures counts { R.refused rec.new ≡ refused_after (is_failed result) (R.refused rec.old) }
 {
     rec.begin(name)?;
     rec.put(head)?;
@@ -52,6 +56,10 @@ pub fn begin<R: Recorder>(
     // The count never falls, and why it was refused.
     ensures later { R.faults rec.old ≤ R.faults rec.new }
     ensures refused { IfErr result (λ status. IsEarly status ⊥ ⊥ (Rose (R.faults rec.old) (R.faults rec.new))) }
+    // Where it refused a call, that is the status, unless memory ran out.
+    ensures counts { OnOk result (R.refused rec.new ≡ R.refused rec.old) }
+    ensures first { IfErr result (λ status. Yields status WriteFault (R.refused rec.new ≡ R.refused rec.old)) }
+    ensures unread { IfErr result (λ status. status ≢ ReadFault) }
 {
     let Some(name) = capture else {
         return Ok(());

@@ -1,6 +1,6 @@
 //! The node's thread is started.
 
-ghost use Rattle.std.specs.Prelude.{◌≡◌, ◌≤◌, true, None, IfOk, IfErr, OnErr};
+ghost use Rattle.std.specs.Prelude.{◌≡◌, ◌≤◌, true, None, IfOk, IfErr, OnOk, OnErr};
 ghost use Rattle.std.specs.Arc.{arc_value};
 ghost use Rattle.zre_outside.specs.Causes.{Rose};
 ghost use Rattle.zre_outside.specs.Spawners.{job_of};
@@ -34,6 +34,7 @@ where
     // The spawner's count rises where the start is refused.
     ensures later { P.faults spawner.old ≤ P.faults spawner.new }
     ensures failed { OnErr result (Rose (P.faults spawner.old) (P.faults spawner.new)) }
+    ensures counts { OnOk result (P.faults spawner.new ≡ P.faults spawner.old) }
 {
     let job = ActorJob {
         pipes: seat.pipes,

@@ -1,6 +1,6 @@
 //! A job is started that puts commands, and the node's events are printed meanwhile.
 
-ghost use Rattle.std.specs.Prelude.{◌≡◌, ◌≤◌, ◌⊎◌, true, None, Some, IsSome, OnErr, MatchResult};
+ghost use Rattle.std.specs.Prelude.{◌≡◌, ◌≤◌, ◌⊎◌, true, false, None, Some, IsSome, OnOk, OnErr, MatchResult};
 ghost use Rattle.std.specs.Arc.{arc_value};
 ghost use Rattle.zre_outside.specs.Causes.{Rose};
 ghost use Rattle.zre_outside.specs.Spawners.{job_of};
@@ -53,6 +53,7 @@ pub fn start<J: Job<P::Runtime>, P: Spawner>(
 ) -> Result<Running<J>, J>
     ensures started { MatchResult result (λ running. job_of running ≡ job) (λ back. back ≡ job) }
     ensures refused { OnErr result ((refused ≡ true) ⊎ Rose (P.faults spawner.old) (P.faults spawner.new)) }
+    ensures counts { OnOk result ((refused ≡ false) × (P.faults spawner.new ≡ P.faults spawner.old)) }
     ensures later { P.faults spawner.old ≤ P.faults spawner.new }
 {
     if refused {
@@ -106,6 +107,9 @@ impl PrinterSeat {
         ensures failed { result.printed.fault ≡ Some Failed → Rose (O.faults out.old) (O.faults out.new) }
         ensures refused { result.refused ≡ true
             → (refused ≡ true) ⊎ Rose (P.faults spawner.old) (P.faults spawner.new) }
+        ensures written { result.printed.fault ≡ None → O.refused out.new ≡ O.refused out.old }
+        ensures counts { result.refused ≡ false
+            → (refused ≡ false) × (P.faults spawner.new ≡ P.faults spawner.old) }
         ensures writes { O.faults out.old ≤ O.faults out.new }
         ensures starts { P.faults spawner.old ≤ P.faults spawner.new }
     {

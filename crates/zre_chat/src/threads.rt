@@ -7,6 +7,7 @@ ghost use Rattle.zre_node.specs.Journal.{StandsFor};
 ghost use Rattle.zre_actor.specs.Passes.{number};
 ghost use Rattle.zre_chat.specs.Chat.{IsChat, Seen, seen};
 ghost use Rattle.zre_chat.specs.Stages.{Prepared};
+ghost use Rattle.zre_chat.specs.Statuses.{IsFirst, IsReadSo};
 ghost use Rattle.zre_chat.specs.Tables.{IsLaid};
 
 use crate::chat::Ended;
@@ -56,6 +57,11 @@ impl Table {
             (W.told result.world) (W.faults result.world) (O.written out.new) (O.faults out.new)
             (R.kept result.rec) (R.named result.rec) (R.faults result.rec) (P.faults spawner.new))
             result.status }
+        // The status is the first of what occurred.
+        ensures first { IsFirst result.status (O.refused out.new ≡ O.refused out.old)
+            (R.refused result.rec ≡ R.refused work.rec) (W.refused result.world ≡ W.refused work.world)
+            (P.faults spawner.new ≡ P.faults spawner.old) }
+        ensures read { IsReadSo result.status (I.refused input) (I.refused result.input) }
         // What isn't used comes back as it was; counts of faults never fall.
         ensures unkept { work.keep ≡ false → result.rec ≡ work.rec }
         ensures later { (I.faults input ≤ I.faults result.input) × (O.faults out.old ≤ O.faults out.new)

@@ -44,6 +44,8 @@ impl<D: Desk, R: Eprint> Desk for Waiting<D, R> {
 
     ghost faults = { λ d. D.faults d.inner };
 
+    ghost refused = { λ d. D.refused d.inner };
+
     fn begin(&mut self, addr: [u8; 4], port: u16) -> Result<(), Failed> {
         self.place = Some(Endpoint { addr, port });
         self.came = 0;

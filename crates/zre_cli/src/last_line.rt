@@ -86,6 +86,8 @@ impl<S: Sink> Sink for Remembering<S> {
 
     ghost faults = { λ s. S.faults s.inner };
 
+    ghost refused = { λ s. S.refused s.inner };
+
     fn write(&mut self, bytes: &[u8]) -> Result<usize, NextFault> {
         let n = self.inner.write(bytes)?;
         self.line.push_end(&bytes[..n]);

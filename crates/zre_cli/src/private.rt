@@ -40,6 +40,8 @@ impl<T: Recorder, R: Files> Recorder for Private<T, R> {
 
     ghost faults = { λ p. T.faults p.inner };
 
+    ghost refused = { λ p. T.refused p.inner };
+
     fn begin(&mut self, name: &str) -> Result<(), NextFault> {
         let made = OpenOptions::new()
             .write(true)

@@ -1,2 +1,3 @@
 pub mod Showing
 pub mod Writing
+pub mod Unrefused

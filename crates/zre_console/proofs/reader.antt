@@ -1,3 +1,4 @@
 pub mod Pieces
 pub mod Puts
 pub mod Reach
+pub mod Refused

@@ -121,6 +121,8 @@ impl<T: Sink> Sink for Alarming<T> {
 
     ghost faults = { λ a. T.faults a.inner };
 
+    ghost refused = { λ a. T.refused a.inner };
+
     fn write(&mut self, bytes: &[u8]) -> Result<usize, NextFault> {
         if bytes.is_empty() {
             self.alarm.raise();
@@ -139,6 +141,8 @@ impl<T: Recorder> Recorder for Alarming<T> {
 
     ghost faults = { λ a. T.faults a.inner };
 
+    ghost refused = { λ a. T.refused a.inner };
+
     fn begin(&mut self, name: &str) -> Result<(), NextFault> {
         self.alarm.raised_at(self.inner.begin(name))
     }
@@ -154,6 +158,8 @@ impl<T: World> World for Alarming<T> {
     ghost looked = { λ a. T.looked a.inner };
 
     ghost faults = { λ a. T.faults a.inner };
+
+    ghost refused = { λ a. T.refused a.inner };
 
     fn start(&mut self, s: &Start) -> Result<(), NextFault> {
         self.alarm.raised_at(self.inner.start(s))

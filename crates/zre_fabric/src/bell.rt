@@ -159,6 +159,8 @@ impl<S: Source> Source for Ringing<S> {
 
     ghost faults = { λ s. S.faults s.inner };
 
+    ghost refused = { λ s. S.refused s.inner };
+
     /// Reads what the source under it gives, after a ring where the last read gave some. One that rings reads 8,192
     /// octets at most.
     fn read(&mut self, buf: &mut [u8]) -> Result<usize, Failed> {

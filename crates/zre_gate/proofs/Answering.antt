@@ -12,7 +12,7 @@ use Rattle.zre_actor.specs.Passes.{IsCallerOf, number, ended}
 use Rattle.zre_console.specs.lines.Orders.{typed}
 use Rattle.zre_console.specs.declared.reader.ending.InputEnd.{InputEnd}
 use Rattle.zre_console.specs.declared.reader.ending.InputEnd.TheVariants as end
-use Rattle.zre_console.specs.reader.Reading.{LinesOutcome, HasReadLines}
+use Rattle.zre_console.specs.reader.Reading.{LinesOutcome, HasReadLines, EndsByRefusal}
 use Rattle.zre_console.proofs.lines.Quits.{typed-begin}
 use Rattle.zre_console.proofs.reader.Puts.{puts-none}
 use Rattle.zre_gate.specs.Clients.{ClientRow}
@@ -22,8 +22,8 @@ use Rattle.zre_gate.specs.Halls.{Hall, IsGuest, IsAnswer}
 pub answered : (hall : Option Hall) (pipes : Pipes) (limit place : ℕ) (pass pass' : CallerPass) (before after : ClientRow) (e : InputEnd)
     → IsGuest hall pipes limit place pass before → IsCallerOf pipes pass'
     → HasReadLines e limit pass pass' before.left after.left before.taken after.taken (Rose before.faults after.faults)
-    → before.faults ≤ after.faults → IsAnswer hall place after pass' e
-answered hall pipes limit place pass pass' before after e k of_pipes h later = record {
+    → before.faults ≤ after.faults → EndsByRefusal e before.refused after.refused → IsAnswer hall place after pass' e
+answered hall pipes limit place pass pass' before after e k of_pipes h later refused = record {
   there = k.there;
   is_hall = k.is_hall;
   served = record { number = number pass; before = before; after = after; octets = h.octets; commands = h.commands; end = e };
@@ -35,6 +35,7 @@ answered hall pipes limit place pass pass' before after e k of_pipes h later = r
     within = subst (λ (l : ℕ). length h.octets ≤ l) k.same_limit h.within;
     later = later;
     outcome = subst (λ (l : ℕ). LinesOutcome e l h.commands h.octets after.left (Rose before.faults after.faults)) k.same_limit h.outcome;
+    refused = refused;
   };
   of_pipes = subst (λ (p : Pipes). IsCallerOf p pass') k.same_pipes of_pipes;
   is_number = h.puts.same_number;
@@ -54,7 +55,7 @@ left_alone hall pipes limit place pass before k =
       commands = [];
       puts = puts-none pass;
       outcome = (typed-begin [] [] [] refl refl, (typed [], refl), inl refl);
-    }) (omega arith)
+    }) (omega arith) refl
 
 -- that a pass is a caller's of these pipes has one proof
 pub caller_prop : (pipes : Pipes) (p : CallerPass) → IsProp (IsCallerOf pipes p)

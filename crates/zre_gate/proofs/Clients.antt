@@ -10,12 +10,13 @@ use Rattle.std.proofs.lemmas.List.{append_cancel_right}
 use Rattle.zre_outside.specs.declared.entry.Command.{Command}
 use Rattle.zre_outside.specs.declared.entry.Command.TheVariants.{Quit}
 use Rattle.zre_outside.specs.Causes.{Rose}
+use Rattle.zre_outside.specs.Refusals.{Refusals, RefusesNone, RefusesLast}
 use Rattle.zre_console.specs.lines.Orders.{is_quit, before_quit, typed, orders, asked, Begins}
 use Rattle.zre_console.proofs.lines.Quits.{begun-none, none-before, asked-quits, asked-typed, before-none, typed-begin}
 use Rattle.zre_console.specs.declared.reader.ending.InputEnd.{InputEnd}
 use Rattle.zre_console.specs.declared.reader.ending.InputEnd.TheVariants as end
 use Rattle.zre_console.specs.reader.Putting.{IsShort}
-use Rattle.zre_console.specs.reader.Reading.{LinesOutcome}
+use Rattle.zre_console.specs.reader.Reading.{LinesOutcome, EndsByRefusal}
 use Rattle.zre_commands.specs.declared.pump.status.Status.TheVariants.{Done, TooLong, OutOfMemory}
 use Rattle.zre_chat.proofs.Fronts.{prefix_self, prefix_trans, short_front}
 use Rattle.zre_gate.specs.Clients.{Served, IsServed, is_over, of_client}
@@ -66,6 +67,16 @@ front_finished : (limit : ℕ) (handed cs : List Command) (o : List ℕ) (left :
 front_finished limit handed cs o left p (inl q) = inl (prefix_trans handed cs (asked true o) p q)
 front_finished limit handed cs o left p (inr at) = inr at
 
+-- where a read was refused, that is without such a line
+refused_how : (e : InputEnd) (limit : ℕ) (handed cs : List Command) (o : List ℕ) (left : Option (List ℕ)) (read : Type 0) (a b : Option Refusals) → LinesOutcome e limit cs o left read → EndsByRefusal e a b → IsPrefix handed cs
+    → RefusesNone a b ⊎ (RefusesLast a b × IsPrefix handed (asked true o))
+refused_how end.ReadFault limit handed cs o left read a b x last p = inr (last, prefix_trans handed cs (asked true o) p (subst (IsPrefix cs) (all_typed cs o x.3 x.2) (prefix_self cs)))
+refused_how end.Quit limit handed cs o left read a b x none p = inl none
+refused_how end.AtEnd limit handed cs o left read a b x none p = inl none
+refused_how end.Over limit handed cs o left read a b x none p = inl none
+refused_how end.TooLong limit handed cs o left read a b x none p = inl none
+refused_how end.OutOfMemory limit handed cs o left read a b x none p = inl none
+
 pub plain_commands : (e : InputEnd) (limit : ℕ) (cs : List Command) (o : List ℕ) (left : Option (List ℕ)) (read : Type 0) → LinesOutcome e limit cs o left read → list_any is_quit cs ≡ false
 plain_commands end.Quit limit cs o left read x = ap (list_any is_quit) x.1 ∙ none-before (orders o)
 plain_commands end.AtEnd limit cs o left read x = ap (list_any is_quit) x.2 ∙ none-before (orders o)
@@ -115,6 +126,7 @@ module _ (limit : ℕ) (handed : Served → List Command) (x : Served) (s : IsSe
     later = s.later;
     in_order = prefix_trans (handed x) x.commands (asked false x.octets) p (asked_front x.end limit x.commands x.octets x.after.left (Rose x.before.faults x.after.faults) s.outcome);
     unfinished = front_finished limit (handed x) x.commands x.octets x.after.left p (finished_front x.end limit x.commands x.octets x.after.left (Rose x.before.faults x.after.faults) s.outcome);
+    refused = refused_how x.end limit (handed x) x.commands x.octets x.after.left (Rose x.before.faults x.after.faults) x.before.refused x.after.refused s.outcome s.refused p;
   }
 
   pub is_free : of_client x.end ≡ Done → 0 < limit → IsPrefix (handed x) x.commands → IsFree limit (client_for handed x)

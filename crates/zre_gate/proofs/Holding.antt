@@ -38,6 +38,7 @@ use Rattle.zre_console.specs.printer.Printing.{HasPrinted}
 use Rattle.zre_chat.specs.Chat.{Seen}
 use Rattle.zre_chat.specs.Stages.{Prepared}
 use Rattle.zre_chat.specs.Statuses.{rank, least, of_print, of_work, of_thread}
+use Rattle.zre_chat.proofs.First.{least_holds, rest_holds}
 use Rattle.zre_chat.proofs.Asker.{asked_few, asker_put}
 use Rattle.zre_chat.proofs.Living as living
 use Rattle.zre_chat.proofs.Merged.{all_under}
@@ -214,9 +215,8 @@ module _ (g : Config) (start : Start) (name : Option (List ℕ)) (keep : Bool) (
           are_after = map_map after_of (client_for (its_named b)) S ∙ gathers.are_after;
           each = each;
           merged = merged;
-          occurred = statuses;
-          is_status = refl;
-          caused = (close_cause gathers.ends.cause w.turns (has_stopped (chronicle g w.entries)), (rest_cause.0, (rest_cause.1, (rest_cause.2, tt))));
+          caused = least_holds Needs close (of_print broke ∷ of_work how ∷ of_thread refused ∷ []) (close_cause gathers.ends.cause w.turns (has_stopped (chronicle g w.entries)))
+              (rest_holds Needs broke how refused rest_cause.0 rest_cause.1 rest_cause.2 tt);
         }
 
     -- none of these is the desk's

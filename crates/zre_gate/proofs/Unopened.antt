@@ -18,7 +18,6 @@ use Rattle.zre_commands.specs.declared.pump.status.Status.TheVariants.{Done, Wri
 use Rattle.zre_chat.specs.Chat.{Seen, Holds, started}
 use Rattle.zre_chat.specs.Stages.{IsEarly}
 use Rattle.zre_chat.proofs.Whole.{unlived, unwritten, uncaptured}
-use Rattle.zre_chat.proofs.Rows.{one_least}
 use Rattle.zre_gate.specs.Clients.{ClientRow}
 use Rattle.zre_gate.specs.Gate.{Client, IsClient, IsCaused, IsGate, before_of, after_of, handed_of}
 use Rattle.zre_gate.specs.Interleaving.{IsInterleaving, of_name}
@@ -34,6 +33,7 @@ is_unread limit r = record {
   later = omega arith;
   in_order = (asked false [], refl);
   unfinished = inl (asked true [], refl);
+  refused = inl refl;
 }
 
 all_unread : (limit : ℕ) (rows : List ClientRow) → All (IsClient limit) (map unread rows)
@@ -84,9 +84,7 @@ module _ (g : Config) (start : Start) (name : Option (List ℕ)) (limit many : �
         all_handed = λ d. absurd (not_done d);
         free = λ d. absurd (not_done d);
       };
-      occurred = status ∷ [];
-      is_status = one_least status;
-      caused = (cause, tt);
+      caused = cause;
     } ∣₁;
   }
 

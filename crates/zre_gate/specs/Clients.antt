@@ -2,24 +2,28 @@
 use Rattle.std.specs.Prelude.{ℕ, ◌≤◌, Bool, true, false, List, [], map, flat_map, length, Option}
 use Rattle.zre_outside.specs.declared.entry.Command.{Command}
 use Rattle.zre_outside.specs.Causes.{Rose}
+use Rattle.zre_outside.specs.Refusals.{Refusals}
 use Rattle.zre_outside.specs.Told.{MovesOn}
 use Rattle.zre_actor.specs.declared.views.Placed.{Placed}
 use Rattle.zre_actor.specs.Commands.{placed}
 use Rattle.zre_console.specs.declared.reader.ending.InputEnd.{InputEnd}
 use Rattle.zre_console.specs.declared.reader.ending.InputEnd.TheVariants as end
-use Rattle.zre_console.specs.reader.Reading.{LinesOutcome}
+use Rattle.zre_console.specs.reader.Reading.{LinesOutcome, EndsByRefusal}
 use Rattle.zre_commands.specs.declared.pump.status.Status.{Status}
 use Rattle.zre_commands.specs.declared.pump.status.Status.TheVariants.{Done}
 use Rattle.zre_chat.specs.Statuses.{of_read}
 
--- what a client tells that is left and that was taken, and how often it failed
+-- what a client tells that is left and that was taken, how often it failed, and the reads that it refused
 pub record ClientRow : Type 0 where
   pub left : Option (List ℕ)
   pub taken : Option (List ℕ)
   pub faults : ℕ
+  pub refused : Option Refusals
 
-abbrev pub row : {C : Type 0} (left taken : C → Option (List ℕ)) (faults : C → ℕ) → C → ClientRow
-row left taken faults c = record { left = left c; taken = taken c; faults = faults c }
+abbrev pub row : {C : Type 0} (left taken : C → Option (List ℕ)) (faults : C → ℕ) (refused : C → Option Refusals) → C
+    → ClientRow
+row left taken faults refused c =
+    record { left = left c; taken = taken c; faults = faults c; refused = refused c }
 
 -- a client that was waited for: under which number its commands were put, what it told before and after, what was
 -- taken of it and put, and why no more was
@@ -36,6 +40,7 @@ pub record IsServed (limit : ℕ) (x : Served) : Type 0 where
   pub within : length x.octets ≤ limit
   pub later : x.before.faults ≤ x.after.faults
   pub outcome : LinesOutcome x.end limit x.commands x.octets x.after.left (Rose x.before.faults x.after.faults)
+  pub refused : EndsByRefusal x.end x.before.refused x.after.refused
 
 -- what was put for it
 abbrev pub put_for : Served → List Placed

@@ -1,5 +1,5 @@
 -- What a gate comes to.
-use Rattle.std.specs.Prelude.{◌≡◌, ◌⊎◌, ℕ, ◌≤◌, ◌<◌, Bool, true, false, if◌then◌else◌, List, [], ◌∷◌, ◌++◌, map, length}
+use Rattle.std.specs.Prelude.{◌≡◌, ◌⊎◌, ℕ, ◌≤◌, ◌<◌, Bool, true, false, if◌then◌else◌, List, [], ◌++◌, map, length}
 use Rattle.std.specs.Prelude.{All, Contains, Option, Some, None, option_map, ⊤}
 use mathlib.Core.List.{IsPrefix}
 use Rattle.std.specs.List.{list_any}
@@ -9,6 +9,7 @@ use Rattle.zre_outside.specs.declared.entry.Command.{Command}
 use Rattle.zre_outside.specs.declared.start.Start.{Start}
 use Rattle.zre_outside.specs.Causes.{Rose}
 use Rattle.zre_outside.specs.Desks.{Register}
+use Rattle.zre_outside.specs.Refusals.{RefusesNone, RefusesLast}
 use Rattle.zre_outside.specs.Told.{MovesOn}
 use Rattle.zre_outside.specs.Worlds.{Log}
 use Rattle.zre_values.specs.declared.settings.Settings.{Settings as Config}
@@ -22,7 +23,6 @@ use Rattle.zre_commands.specs.declared.pump.status.Status.TheVariants.{Done, Usa
 use Rattle.zre_commands.specs.declared.pump.status.Status.TheVariants.{WorldFault, NoThread, TooLong, OutOfMemory}
 use Rattle.zre_commands.specs.declared.pump.status.Status.TheVariants.{DeskFault}
 use Rattle.zre_chat.specs.Chat.{Seen, seen, Lived, Wrote, Captured}
-use Rattle.zre_chat.specs.Statuses.{least}
 use Rattle.zre_gate.specs.Clients.{ClientRow}
 use Rattle.zre_gate.specs.Interleaving.{IsInterleaving}
 
@@ -49,13 +49,16 @@ abbrev pub handed_of : Client → List Command
 handed_of c = c.handed
 
 -- the commands that were handed in begin those that the client asked for; a last line without a line feed counts only
--- where the client was found at its end, before the limit
+-- where the client was found at its end, before the limit. Where the client tells the reads that it refused, none was
+-- refused; or the last one was and no other, and then no such line counts
 pub record IsClient (limit : ℕ) (c : Client) : Type 0 where
   pub moved : MovesOn c.before.left c.after.left c.before.taken c.after.taken c.octets
   pub within : length c.octets ≤ limit
   pub later : c.before.faults ≤ c.after.faults
   pub in_order : IsPrefix c.handed (asked false c.octets)
   pub unfinished : IsPrefix c.handed (asked true c.octets) ⊎ (IsAtEnd c.after.left × (length c.octets < limit))
+  pub refused : RefusesNone c.before.refused c.after.refused
+      ⊎ (RefusesLast c.before.refused c.after.refused × IsPrefix c.handed (asked true c.octets))
 
 -- all that it asked for was handed in; such a line isn't, where it failed or as many octets as the limit were taken.
 -- Unless it failed, it was read to its end or to its quit
@@ -91,13 +94,6 @@ IsCaused Usage limit clients turns stopped s t desk = ⊥
 IsCaused BadInput limit clients turns stopped s t desk = ⊥
 IsCaused ReadFault limit clients turns stopped s t desk = ⊥
 
--- all of these
-abbrev pub AreCaused : List Status → (limit : ℕ) (clients : List Client) (turns : ℕ) (stopped : Bool) → Seen → Seen
-    → (desk : Type 0) → Type 0
-AreCaused [] limit clients turns stopped s t desk = ⊤
-AreCaused (x ∷ xs) limit clients turns stopped s t desk =
-    IsCaused x limit clients turns stopped s t desk × AreCaused xs limit clients turns stopped s t desk
-
 -- the commands that were handed in are, but for a quit at their end, an interleaving of the clients' own; where all
 -- went well and a quit stands there, all that the clients asked for was handed in
 pub record Merged (limit : ℕ) (clients : List Client) (handed : List Command) (status : Status) : Type 0 where
@@ -109,8 +105,8 @@ pub record Merged (limit : ℕ) (clients : List Client) (handed : List Command) 
   pub all_handed : status ≡ Done → list_any is_quit handed ≡ true → All (IsWhole limit) clients
   pub free : status ≡ Done → All (IsFree limit) clients
 
--- there are such clients, so many where all went well, and the status is the first of what occurred, each with its
--- cause. The rows are those of the clients that the desk gave
+-- there are such clients, so many where all went well, and the status has its cause. The rows are those of the clients
+-- that the desk gave
 pub record HasServed (limit : ℕ) (handed : List Command) (turns : ℕ) (stopped : Bool) (s t : Seen) (desk : Type 0)
     (before after : List ClientRow) (status : Status) : Type 0 where
   pub clients : List Client
@@ -118,9 +114,7 @@ pub record HasServed (limit : ℕ) (handed : List Command) (turns : ℕ) (stoppe
   pub are_after : map after_of clients ≡ after
   pub each : All (IsClient limit) clients
   pub merged : Merged limit clients handed status
-  pub occurred : List Status
-  pub is_status : status ≡ least occurred
-  pub caused : AreCaused occurred limit clients turns stopped s t desk
+  pub caused : IsCaused status limit clients turns stopped s t desk
 
 -- a gate of a node with settings g, which goes on the network by start and keeps a capture under a name, for so many
 -- clients; desk says that the desk's count of faults rose. What was taken of a client may be told by nothing that is

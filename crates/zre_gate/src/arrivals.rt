@@ -1,7 +1,8 @@
 //! The clients come.
 
-ghost use Rattle.std.specs.Prelude.{◌≡◌, ◌≤◌, [], length, vec_capacity, OnOk, OnErr, true};
+ghost use Rattle.std.specs.Prelude.{◌≡◌, ◌≤◌, [], length, vec_capacity, is_err, OnOk, OnErr, true};
 ghost use Rattle.zre_outside.specs.Causes.{Rose};
+ghost use Rattle.zre_outside.specs.Refusals.{refused_after};
 ghost use Rattle.zre_gate.specs.Stages.{Attends, AttendsAll};
 
 use zre_outside::{Desk, Failed};
@@ -22,6 +23,7 @@ pub(crate) fn attend<D: Desk>(
     // The desk's count rises where it failed.
     ensures failed { OnErr result (Rose (D.faults desk.old) (D.faults desk.new)) }
     ensures later { D.faults desk.old ≤ D.faults desk.new }
+    ensures counts { D.refused desk.new ≡ refused_after (is_err result) (D.refused desk.old) }
 {
     desk.begin(place.addr, place.port)?;
     'each: for _ in 0..many {

@@ -21,7 +21,7 @@ pub struct Answer<C: Source, B: GateName> {
     pub done: ReaderDone<C>,
     /// Of which gate it is.
     pub of: PhantomData<B>,
-    ghost known: { ∥ IsAnswer B.hall place (row C.left C.taken C.faults done.input) done.pass done.end ∥₁ },
+    ghost known: { ∥ IsAnswer B.hall place (row C.left C.taken C.faults C.refused done.input) done.pass done.end ∥₁ },
 }
 
 /// Reads a client and puts the commands of its lines, as a [`ReaderJob`] does, but for the quit, which isn't put. The
@@ -35,7 +35,7 @@ pub struct ClientJob<C: Source, B: GateName> {
     /// Where the answer goes to. A thread's handle can't be waited for by another thread than the one that started it.
     pub line: Sender<Answer<C, B>>,
     ghost known: { ∥ IsGuest B.hall (arc_value reading.pipes) reading.limit place reading.pass
-        (row C.left C.taken C.faults reading.input) ∥₁ },
+        (row C.left C.taken C.faults C.refused reading.input) ∥₁ },
 }
 
 impl<C: Source + Send + Drop + 'static, B: GateName + Send + 'static> Task for ClientJob<C, B> {

@@ -52,7 +52,7 @@ impl<C: Source + Send + Drop + 'static, B: GateName + Send + 'static> Task for C
     type Out = Read<Vec<C>>;
 
     ghost means = { λ job out. IsCallerOf (arc_value job.pipes) out.pass
-        × ClosesAll B.hall (map (row C.left C.taken C.faults) out.input.items) job.pass out.pass out.status };
+        × ClosesAll B.hall (map (row C.left C.taken C.faults C.refused) out.input.items) job.pass out.pass out.status };
 }
 
 impl<T: Wait + Copy, C: Source + Send + Drop + 'static, B: GateName + Send + 'static> Job<T>
@@ -83,9 +83,10 @@ where
     requires pipes { IsCallerOf pipes.now gathered.pass }
     ensures pipes { IsCallerOf pipes.now result.pass }
     ensures closes { (hall : Option Hall) (first : CallerPassValue)
-        → GathersAll hall (map (row C.left C.taken C.faults) gathered.clients.items) first gathered.pass
+        → GathersAll hall (map (row C.left C.taken C.faults C.refused) gathered.clients.items) first gathered.pass
         gathered.status gathered.over
-        → ClosesAll hall (map (row C.left C.taken C.faults) result.input.items) first result.pass result.status }
+        → ClosesAll hall (map (row C.left C.taken C.faults C.refused) result.input.items) first result.pass
+        result.status }
 {
     let GatheredClients {
         clients,

@@ -5,7 +5,9 @@ ghost use Rattle.std.specs.Str.{is_utf8};
 ghost use Rattle.zre_outside.specs.Causes.{Rose};
 ghost use Rattle.zre_values.specs.Settings.{is_valid};
 ghost use Rattle.zre_node.specs.Journal.{StandsFor};
+ghost use Rattle.zre_commands.specs.declared.pump.status.Status.TheVariants.{WriteFault, WorldFault, DeskFault};
 ghost use Rattle.zre_chat.specs.Stages.{HasOpened, Unprepared};
+ghost use Rattle.zre_chat.specs.Statuses.{IsFirst, Yields};
 ghost use Rattle.zre_gate.specs.Clients.{row};
 ghost use Rattle.zre_gate.specs.Gate.{HasGated, seen_beside};
 ghost use Rattle.zre_gate.specs.Stages.{Attends, AttendsAll};
@@ -74,13 +76,18 @@ impl Gate {
         requires text { IfSome self.chat.capture (λ name. is_utf8 name ≡ true) }
         requires few { (1 ≤ self.clients) × (self.clients ≤ 14) }
         // What was read, given, done, written and kept, and the status.
-        ensures gate { HasGated (row D.Client.left D.Client.taken D.Client.faults) self.local
+        ensures gate { HasGated (row D.Client.left D.Client.taken D.Client.faults D.Client.refused) self.local
             (D.told desk) (D.told result.desk) self.chat.config self.chat.start self.chat.capture limit self.clients
             (seen_beside (W.told world) (W.faults world) (O.written out.old) (O.faults out.old)
             (R.kept rec) (R.named rec) (R.faults rec) (P.faults spawner.old))
             (seen_beside (W.told result.world) (W.faults result.world) (O.written out.new) (O.faults out.new)
             (R.kept result.rec) (R.named result.rec) (R.faults result.rec) (P.faults spawner.new))
             (Rose (D.faults desk) (D.faults result.desk)) result.clients.items result.status }
+        // The status is the first of what occurred.
+        ensures first { IsFirst result.status (O.refused out.new ≡ O.refused out.old)
+            (R.refused result.rec ≡ R.refused rec) (W.refused result.world ≡ W.refused world)
+            (P.faults spawner.new ≡ P.faults spawner.old)
+            × Yields result.status DeskFault (D.refused result.desk ≡ D.refused desk) }
         // What isn't used comes back as it was; counts of faults never fall.
         ensures unkept { self.chat.capture ≡ None → result.rec ≡ rec }
         ensures later { (O.faults out.old ≤ O.faults out.new) × (P.faults spawner.old ≤ P.faults spawner.new) }
@@ -147,6 +154,12 @@ impl Gate {
             (W.told world.old) (W.told world.new) (R.kept rec.old) (R.kept rec.new) (R.named rec.old) (R.named rec.new)
             (Rose (D.faults desk.old) (D.faults desk.new)) (Rose (W.faults world.old) (W.faults world.new))
             (Rose (R.faults rec.old) (R.faults rec.new))) }
+        // Where one of them refused a call, that is the status, unless memory ran out.
+        ensures counts { OnOk result ((R.refused rec.new ≡ R.refused rec.old)
+            × (W.refused world.new ≡ W.refused world.old) × (D.refused desk.new ≡ D.refused desk.old)) }
+        ensures first { IfErr result (λ status. Yields status WriteFault (R.refused rec.new ≡ R.refused rec.old)
+            × Yields status WorldFault (W.refused world.new ≡ W.refused world.old)
+            × Yields status DeskFault (D.refused desk.new ≡ D.refused desk.old)) }
     {
         let Chat {
             config,

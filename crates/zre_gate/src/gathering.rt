@@ -103,10 +103,10 @@ where
         × (vec_capacity result.clients ≡ vec_capacity gathered.clients) }
     // One client more is gathered.
     ensures gathers { (there : Hall) (first : CallerPassValue) → B.hall ≡ Some there
-        → ∥ Gathers there.limit (take place there.guests) (map (row C.left C.taken C.faults) gathered.clients.items)
-        first gathered.pass gathered.status gathered.over ∥₁
-        → ∥ Gathers there.limit (take (place + 1) there.guests) (map (row C.left C.taken C.faults) result.clients.items)
-        first result.pass result.status result.over ∥₁ }
+        → ∥ Gathers there.limit (take place there.guests)
+        (map (row C.left C.taken C.faults C.refused) gathered.clients.items) first gathered.pass gathered.status gathered.over ∥₁
+        → ∥ Gathers there.limit (take (place + 1) there.guests)
+        (map (row C.left C.taken C.faults C.refused) result.clients.items) first result.pass result.status result.over ∥₁ }
 {
     let GatheredClients {
         mut clients,
@@ -146,8 +146,8 @@ where
     requires room { (clients.items ≡ []) × (length lines.items ≤ vec_capacity clients) }
     ensures pipes { IsCallerOf pipes.now result.pass }
     // All clients are gathered.
-    ensures gathers { GathersAll B.hall (map (row C.left C.taken C.faults) result.clients.items) pass result.pass
-        result.status result.over }
+    ensures gathers { GathersAll B.hall (map (row C.left C.taken C.faults C.refused) result.clients.items) pass
+        result.pass result.status result.over }
 {
     let mut gathered = GatheredClients {
         clients,

@@ -10,6 +10,7 @@ ghost use Rattle.zre_node.specs.Journal.{StandsFor};
 ghost use Rattle.zre_actor.specs.declared.passes.Pipes.{Pipes as PipesValue};
 ghost use Rattle.zre_chat.specs.Chat.{Seen};
 ghost use Rattle.zre_chat.specs.Stages.{Prepared};
+ghost use Rattle.zre_chat.specs.Statuses.{IsFirst};
 ghost use Rattle.zre_chat.specs.Tables.{IsChair};
 ghost use Rattle.zre_gate.specs.Clients.{row};
 ghost use Rattle.zre_gate.specs.Gate.{IsGate, seen_beside};
@@ -85,6 +86,8 @@ where
     // Whether a start was refused; the spawner's count rises then.
     ensures refused { seated.new.refused ≡ true
         → (seated.old.refused ≡ true) ⊎ Rose (P.faults spawner.old) (P.faults spawner.new) }
+    ensures counts { seated.new.refused ≡ false
+        → (seated.old.refused ≡ false) × (P.faults spawner.new ≡ P.faults spawner.old) }
     ensures later { P.faults spawner.old ≤ P.faults spawner.new }
 {
     match start(spawner, job, seated.refused) {
@@ -126,9 +129,10 @@ impl<C: Source + Send + Drop + 'static, B: GateName + Send + 'static> ClientSeat
         requires room { (running.items ≡ []) × (length clients.items ≤ vec_capacity running) }
         requires hall { (pipes : PipesValue) × All (IsChair pipes) self.chairs.items
             × (B.hall ≡ Some (hall_of pipes self.limit (map chair_number self.chairs.items)
-            (map (row C.left C.taken C.faults) clients.items))) }
+            (map (row C.left C.taken C.faults C.refused) clients.items))) }
         // Whether a start was refused; the spawner's count rises then.
         ensures refused { result.refused ≡ true → Rose (P.faults spawner.old) (P.faults spawner.new) }
+        ensures counts { result.refused ≡ false → P.faults spawner.new ≡ P.faults spawner.old }
         ensures later { P.faults spawner.old ≤ P.faults spawner.new }
     {
         let mut seated = Seated {
@@ -193,7 +197,7 @@ impl<C: Source + Send + Drop + 'static> GateTable<C> {
         requires laid { IsLaid (length clients.items) self }
         requires begun { work.keep ≡ true → R.begun work.rec ≡ true }
         requires hall { B.hall ≡ Some (hall_of (arc_value self.base.others.printer.pipes) work.limit
-            (map chair_number self.chairs.items) (map (row C.left C.taken C.faults) clients.items)) }
+            (map chair_number self.chairs.items) (map (row C.left C.taken C.faults C.refused) clients.items)) }
         // What was read, given, done, written and kept, and the status.
         ensures gate { (g : ConfigValue) (start : StartValue) (name : Option (List ℕ)) (s : Seen) (before after : ℕ)
             → StandsFor g [] self.base.seat.node →
@@ -203,8 +207,12 @@ impl<C: Source + Send + Drop + 'static> GateTable<C> {
             IsGate g start name work.limit (length clients.items) s
             (seen_beside (W.told result.world) (W.faults result.world) (O.written out.new) (O.faults out.new)
             (R.kept result.rec) (R.named result.rec) (R.faults result.rec) (P.faults spawner.new))
-            (Rose before after) (map (row C.left C.taken C.faults) clients.items)
-            (map (row C.left C.taken C.faults) result.input.items) result.status }
+            (Rose before after) (map (row C.left C.taken C.faults C.refused) clients.items)
+            (map (row C.left C.taken C.faults C.refused) result.input.items) result.status }
+        // The status is the first of what occurred.
+        ensures first { IsFirst result.status (O.refused out.new ≡ O.refused out.old)
+            (R.refused result.rec ≡ R.refused work.rec) (W.refused result.world ≡ W.refused work.world)
+            (P.faults spawner.new ≡ P.faults spawner.old) }
         // What isn't used comes back as it was; counts of faults never fall.
         ensures unkept { work.keep ≡ false → result.rec ≡ work.rec }
         ensures later { (O.faults out.old ≤ O.faults out.new) × (P.faults spawner.old ≤ P.faults spawner.new) }

@@ -170,7 +170,7 @@ fn ends<R: Threads + Wait + Send + Copy + 'static>(
     Ok(ended.status == case.status && out.written() == case.text)
 }
 
-const CASES: [Case; 13] = [
+const CASES: [Case; 14] = [
     PLAIN,
     Case {
         shows: "their order is no matter",
@@ -247,6 +247,14 @@ const CASES: [Case; 13] = [
         turn_fails: &[3],
         write_fails: &[1],
         status: Status::WriteFault,
+        text: b"",
+        ..PLAIN
+    },
+    Case {
+        shows: "a client is not started, and the world fails",
+        start_fails: &[2],
+        turn_fails: &[1],
+        status: Status::WorldFault,
         text: b"",
         ..PLAIN
     },

@@ -4,6 +4,7 @@ use mathlib.Core.List.{IsPrefix}
 use Rattle.std.specs.List.{list_any}
 use Rattle.std.specs.Io.KnownBytes.{IsAtEnd}
 use Rattle.zre_outside.specs.declared.entry.Command.{Command}
+use Rattle.zre_outside.specs.Refusals.{Refusals, RefusesNone, RefusesLast}
 use Rattle.zre_outside.specs.Told.{MovesOn}
 use Rattle.zre_actor.specs.declared.passes.CallerPass.{CallerPass}
 use Rattle.zre_console.specs.lines.Orders.{is_quit, typed, orders, asked, Begins}
@@ -48,6 +49,16 @@ Outcome ReadFault limit commands o left read = read × (length o < limit) × IsR
 -- as many octets as the limit were taken and a read was due
 Outcome TooLong limit commands o left read = (length o ≡ limit) × IsReadOn o × CutsOff commands o
 Outcome OutOfMemory limit commands o left read = BreaksOff ⊥ commands o
+
+-- where the source tells the reads that it refused: with ReadFault the last read was refused and no other, and with any
+-- other end none
+abbrev pub EndsByRefusal : InputEnd → (refused refused' : Option Refusals) → Type 0
+EndsByRefusal ReadFault refused refused' = RefusesLast refused refused'
+EndsByRefusal Quit refused refused' = RefusesNone refused refused'
+EndsByRefusal AtEnd refused refused' = RefusesNone refused refused'
+EndsByRefusal Over refused refused' = RefusesNone refused refused'
+EndsByRefusal TooLong refused refused' = RefusesNone refused refused'
+EndsByRefusal OutOfMemory refused refused' = RefusesNone refused refused'
 
 -- the same of the lines alone, whose quit isn't put
 abbrev pub LinesOutcome : InputEnd

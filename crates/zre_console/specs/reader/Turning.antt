@@ -5,6 +5,7 @@ use Rattle.std.specs.List.{list_any}
 use Rattle.std.specs.Io.KnownBytes.{IsAtEnd}
 use Rattle.zre_outside.specs.declared.entry.Command.{Command}
 use Rattle.zre_outside.specs.declared.entry.Command.TheVariants as command
+use Rattle.zre_outside.specs.Refusals.{Refusals, RefusesNone}
 use Rattle.zre_actor.specs.declared.passes.CallerPass.{CallerPass}
 use Rattle.zre_console.specs.lines.Orders.{is_quit, typed, asked, Begins}
 use Rattle.zre_console.specs.lines.Typing.{Typing, Typed}
@@ -13,6 +14,7 @@ use Rattle.zre_console.specs.declared.reader.ending.InputEnd.TheVariants as ends
 use Rattle.zre_console.specs.declared.reader.reading.Next.{Next}
 use Rattle.zre_console.specs.declared.reader.reading.Next.TheVariants as nexts
 use Rattle.zre_console.specs.reader.Putting.{Puts, Closes, IsShort}
+use Rattle.zre_console.specs.reader.Reading.{EndsByRefusal}
 
 -- after the commands of o, more were put, which are now the commands of a longer text
 abbrev pub PutsTyped : CallerPass → CallerPass → (o longer : List ℕ) → Type 0
@@ -55,6 +57,21 @@ Turned nexts.Go t o piece left old new read = (0 < length piece) × Took nexts.G
 Turned nexts.Finish t o piece left old new read = Typed o t × (piece ≡ []) × IsAtEnd left × (new ≡ old)
 Turned (nexts.End ends.ReadFault) t o piece left old new read = (piece ≡ []) × read × (new ≡ old)
 Turned (nexts.End end) t o piece left old new read = Took (nexts.End end) t o piece old new
+
+-- the read of a turn was refused where the turn ends the reading so, and nowhere else
+abbrev pub TurnRefuses : Next → (refused refused' : Option Refusals) → Type 0
+TurnRefuses nexts.Go refused refused' = RefusesNone refused refused'
+TurnRefuses nexts.Finish refused refused' = RefusesNone refused refused'
+TurnRefuses (nexts.End end) refused refused' = EndsByRefusal end refused refused'
+
+-- what comes next isn't that of a refused read
+abbrev pub GoesUnrefused : Next → Type 0
+GoesUnrefused next = (refused refused' : Option Refusals) → RefusesNone refused refused'
+    → TurnRefuses next refused refused'
+
+abbrev pub EndsUnrefused : InputEnd → Type 0
+EndsUnrefused end = (refused refused' : Option Refusals) → RefusesNone refused refused'
+    → EndsByRefusal end refused refused'
 
 -- the end of the input o, whose typed commands were put
 abbrev pub Finishes : InputEnd → (o : List ℕ) (old new : CallerPass) → Type 0

@@ -45,6 +45,7 @@ impl Page {
         ensures same { self.new.fault ≡ self.old.fault }
         ensures later { O.faults out.old ≤ O.faults out.new }
         ensures failed { IsErrOf result NextFault.Failed → Rose (O.faults out.old) (O.faults out.new) }
+        ensures counts { OnOk result (O.refused out.new ≡ O.refused out.old) }
     {
         push_line(&mut self.text, event)?;
         write_much(&mut self.text, out)
@@ -60,6 +61,7 @@ impl Page {
         ensures later { O.faults out.old ≤ O.faults out.new }
         ensures failed { self.new.fault ≡ Some Failed → (self.old.fault ≡ Some Failed)
             ⊎ Rose (O.faults out.old) (O.faults out.new) }
+        ensures counts { self.new.fault ≡ None → O.refused out.new ≡ O.refused out.old }
     {
         if self.fault.is_some() {
             return;
@@ -80,6 +82,7 @@ impl Page {
         ensures later { O.faults out.old ≤ O.faults out.new }
         ensures failed { self.new.fault ≡ Some Failed → (self.old.fault ≡ Some Failed)
             ⊎ Rose (O.faults out.old) (O.faults out.new) }
+        ensures counts { self.new.fault ≡ None → O.refused out.new ≡ O.refused out.old }
     {
         if self.fault.is_some() || self.text.is_empty() {
             return;
@@ -101,6 +104,7 @@ impl Page {
         ensures later { O.faults out.old ≤ O.faults out.new }
         ensures failed { self.new.fault ≡ Some Failed → (self.old.fault ≡ Some Failed)
             ⊎ Rose (O.faults out.old) (O.faults out.new) }
+        ensures counts { self.new.fault ≡ None → O.refused out.new ≡ O.refused out.old }
     {
         let told = out.write(&[]);
         if self.fault.is_some() {
@@ -122,6 +126,7 @@ impl Page {
         ensures later { O.faults out.old ≤ O.faults out.new }
         ensures failed { self.new.fault ≡ Some Failed → (self.old.fault ≡ Some Failed)
             ⊎ Rose (O.faults out.old) (O.faults out.new) }
+        ensures counts { self.new.fault ≡ None → O.refused out.new ≡ O.refused out.old }
     {
         self.write(out);
         self.tell_end(out);

@@ -52,6 +52,7 @@ impl Page {
         ensures later { O.faults out.old ≤ O.faults out.new }
         ensures failed { self.new.fault ≡ Some Failed → (self.old.fault ≡ Some Failed)
             ⊎ Rose (O.faults out.old) (O.faults out.new) }
+        ensures counts { self.new.fault ≡ None → O.refused out.new ≡ O.refused out.old }
         ensures stays { IsSome self.old.fault → self.new.fault ≡ self.old.fault }
     {
         let (taker, found) = pipes.try_take(rt, taker);
@@ -86,10 +87,12 @@ impl Page {
         ensures prints { (first : AskerValue) (start : TakerPassValue) (w : Option (List ℕ))
             → Prints first start w asker taker self.old (O.written out.old) →
             Prints first start w result.1 result.0 self.new (O.written out.new) }
-        // The count rises where the sink failed.
+        // The count rises where the sink failed, and a fault stays.
+        ensures calm { self.new.fault ≡ None → self.old.fault ≡ None }
         ensures later { O.faults out.old ≤ O.faults out.new }
         ensures failed { self.new.fault ≡ Some Failed → (self.old.fault ≡ Some Failed)
             ⊎ Rose (O.faults out.old) (O.faults out.new) }
+        ensures counts { self.new.fault ≡ None → O.refused out.new ≡ O.refused out.old }
     {
         let asker = asker.ask(rt, pipes, self.fault.is_some());
         let (taker, found) = self.next_told(rt, pipes, taker, out, asker.wish);
@@ -133,6 +136,7 @@ pub fn print_all<O: Sink, T: Wait + Copy>(
     // The count rises where the sink failed.
     ensures later { O.faults out.old ≤ O.faults out.new }
     ensures failed { result.fault ≡ Some Failed → Rose (O.faults out.old) (O.faults out.new) }
+    ensures counts { result.fault ≡ None → O.refused out.new ≡ O.refused out.old }
 {
     let mut page = Page::new(alloc);
     for _ in rt.forever() {

@@ -5,7 +5,7 @@ ghost use Rattle.std.specs.Arc.{arc_value};
 ghost use Rattle.zre_outside.specs.Causes.{Rose};
 ghost use Rattle.zre_actor.specs.Passes.{IsCallerOf};
 ghost use Rattle.zre_console.specs.declared.reader.ending.InputEnd.TheVariants.{Over};
-ghost use Rattle.zre_console.specs.reader.Reading.{HasReadLines};
+ghost use Rattle.zre_console.specs.reader.Reading.{HasReadLines, EndsByRefusal};
 
 use crate::reader::InputEnd;
 use crate::reader::putting::{ChatPipes, end_reading};
@@ -57,6 +57,7 @@ impl<I: Source + Drop> ReaderJob<I> {
         ensures read { HasReadLines result.0.end self.limit self.pass result.0.pass
             (I.left self.input) (I.left result.0.input) (I.taken self.input) (I.taken result.0.input)
             (Rose (I.faults self.input) (I.faults result.0.input)) }
+        ensures refused { EndsByRefusal result.0.end (I.refused self.input) (I.refused result.0.input) }
         ensures later { I.faults self.input ≤ I.faults result.0.input }
     {
         let ReaderJob {
@@ -92,14 +93,15 @@ impl<I: Source + Send + Drop + 'static> Task for ReaderJob<I> {
     ghost use Rattle.std.specs.Arc.{arc_value};
     ghost use Rattle.zre_outside.specs.Causes.{Rose};
     ghost use Rattle.zre_actor.specs.Passes.{IsCallerOf};
-    ghost use Rattle.zre_console.specs.reader.Reading.{HasRead};
+    ghost use Rattle.zre_console.specs.reader.Reading.{HasRead, EndsByRefusal};
 
     type Out = ReaderDone<I>;
 
     ghost means = { λ job out. IsCallerOf (arc_value job.pipes) out.pass × (I.faults job.input ≤ I.faults out.input)
         × HasRead out.end job.limit job.pass out.pass
         (I.left job.input) (I.left out.input) (I.taken job.input) (I.taken out.input)
-        (Rose (I.faults job.input) (I.faults out.input)) };
+        (Rose (I.faults job.input) (I.faults out.input))
+        × EndsByRefusal out.end (I.refused job.input) (I.refused out.input) };
 }
 
 impl<T: Wait + Copy, I: Source + Send + Drop + 'static> Job<T> for ReaderJob<I> {

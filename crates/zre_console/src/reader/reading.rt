@@ -7,8 +7,8 @@ ghost use Rattle.zre_outside.specs.Told.{MovesOn};
 ghost use Rattle.zre_actor.specs.Passes.{IsCallerOf};
 ghost use Rattle.zre_console.specs.lines.Orders.{is_quit, typed};
 ghost use Rattle.zre_console.specs.lines.Typing.{Typed};
-ghost use Rattle.zre_console.specs.reader.Reading.{HasReadLines};
-ghost use Rattle.zre_console.specs.reader.Turning.{Took, Turned, Finishes};
+ghost use Rattle.zre_console.specs.reader.Reading.{HasReadLines, EndsByRefusal};
+ghost use Rattle.zre_console.specs.reader.Turning.{Took, Turned, TurnRefuses, Finishes, GoesUnrefused, EndsUnrefused};
 
 use crate::lines::Typist;
 use crate::reader::InputEnd;
@@ -52,6 +52,7 @@ impl ChatPipes<'_> {
         ensures pipes { IsCallerOf self.now.pipes.now result.0 }
         ensures took { (o : List ℕ) → Typed o typist.old → list_any is_quit (typed o) ≡ false →
             Took result.1 typist.new o piece.now pass result.0 }
+        ensures unrefused { GoesUnrefused result.1 }
     {
         let mut commands = Vec::new(alloc);
         let fed = typist.feed(piece, &mut commands);
@@ -87,6 +88,7 @@ impl ChatPipes<'_> {
         ensures turned { (o : List ℕ) → Typed o typist.old → list_any is_quit (typed o) ≡ false →
             Turned result.next typist.new o (take result.read buf.new) (I.left input.new) pass result.pass
             (Rose (I.faults input.old) (I.faults input.new)) }
+        ensures refused { TurnRefuses result.next (I.refused input.old) (I.refused input.new) }
         // The count of faults never falls.
         ensures later { I.faults input.old ≤ I.faults input.new }
     {
@@ -122,6 +124,7 @@ impl ChatPipes<'_> {
         ensures pipes { IsCallerOf self.now.pipes.now result.0 }
         ensures finishes { (o : List ℕ) → Typed o typist.now → list_any is_quit (typed o) ≡ false →
             Finishes result.1 o pass result.0 }
+        ensures unrefused { EndsUnrefused result.1 }
     {
         let Ok(last) = typist.finish() else {
             return (pass, InputEnd::OutOfMemory);
@@ -154,6 +157,8 @@ impl ChatPipes<'_> {
         // What was read and put, and why no more.
         ensures read { HasReadLines result.1 limit pass result.0 (I.left input.old) (I.left input.new)
             (I.taken input.old) (I.taken input.new) (Rose (I.faults input.old) (I.faults input.new)) }
+        // After a refused read nothing more is read.
+        ensures refused { EndsByRefusal result.1 (I.refused input.old) (I.refused input.new) }
         // The count of faults never falls.
         ensures later { I.faults input.old ≤ I.faults input.new }
     {

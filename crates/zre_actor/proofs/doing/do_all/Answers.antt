@@ -5,7 +5,7 @@ use Rattle.zre_actor.proofs.Deeds.{went-none, did_more, take_next, due_at}
 use Rattle.zre_actor.proofs.doing.do_all.Goals as goal
 
 pub loop-act-init : goal.loop-act-init
-loop-act-init g c = record { done = λ _ J _ _. ([], tt, went-none _); world = (refl, refl) }
+loop-act-init g c = record { done = λ _ J _ _. ([], tt, went-none _); world = (refl, refl, refl) }
 
 pub loop-act-preserved : goal.loop-act-preserved
 loop-act-preserved g c =
@@ -14,7 +14,7 @@ loop-act-preserved g c =
     record {
       done = λ f J stands due. (let old = h.done f J stands due in let one = c.do_one.ensures.done f J stands (due_at f (chronicle f J) acts i c.act-item.result c.loop-act-test.true c.act-item.is due) c.if-not-do_one.false in
           rw next (did_more f J (take i acts) c.act-item.result one.0 old.0 _ _ _ old.1 old.2 one.1 one.2));
-      world = (w.0 ∙ h.world.0, w.1 ∙ h.world.1);
+      world = (w.0 ∙ h.world.0, w.1 ∙ h.world.1, w.2 ∙ h.world.2);
     }
 
 pub returns-then-not-do_one-clause-done : goal.returns-then-not-do_one-clause-done

@@ -12,5 +12,5 @@ use Rattle.zre_actor.proofs.doing.do_all.Given as goal
 abbrev pub invariant-loop-act : goal.invariant-loop-act
 invariant-loop-act g l = record {
   done : (c : Config) (J : List Entry) → StandsFor c J l.node → AreDue c (chronicle c J) l.acts → (ds : List Deed) × AreDeeds c (beside J (take l.act-index l.acts)) ds × (g.W.World.told l.world ≡ option_map (went [] 0 [] ds) (g.W.World.told l.initial.world));
-  world : (g.W.World.looked l.world ≡ g.W.World.looked l.initial.world) × (g.W.World.faults l.world ≡ g.W.World.faults l.initial.world);
+  world : (g.W.World.looked l.world ≡ g.W.World.looked l.initial.world) × (g.W.World.faults l.world ≡ g.W.World.faults l.initial.world) × (g.W.World.refused l.world ≡ g.W.World.refused l.initial.world);
 }

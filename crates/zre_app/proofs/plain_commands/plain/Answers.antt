@@ -1,5 +1,6 @@
+use Rattle.zre_app.proofs.Refusing.{memory_read}
 use Rattle.zre_app.proofs.Unread.{nothing_did_plain}
 use Rattle.zre_app.proofs.plain_commands.plain.Goals as goal
 
 pub returns-in-Err : goal.returns-in-Err
-returns-in-Err g c = record { does = nothing_did_plain _ _ _ _ _ }
+returns-in-Err g c = record { does = nothing_did_plain _ _ _ _ _; refused = memory_read _ }

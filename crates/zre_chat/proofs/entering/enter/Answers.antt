@@ -1,7 +1,9 @@
 use Rattle.std.proofs.Common.{◌∙◌, true, false, ap}
 use Rattle.std.specs.Prelude.{Err}
+use mathlib.Core.Logic.{inl}
 use Rattle.zre_commands.specs.declared.pump.status.Status.TheVariants.{WorldFault}
 use Rattle.zre_chat.proofs.Early.{refused_early}
+use Rattle.zre_chat.proofs.First.{fault_yields, world_unread}
 use Rattle.zre_chat.proofs.Whole.{none_started}
 use Rattle.zre_chat.proofs.entering.enter.Goals as goal
 
@@ -11,3 +13,12 @@ returns-in-Err-clause-refused g c = rw (c.of_fault.ensures)
 
 pub returns-in-Err-lay-clause-refused : goal.returns-in-Err-lay-clause-refused
 returns-in-Err-lay-clause-refused g c = (true, c.in_default.ensures.told, tt)
+
+pub returns-in-Err-clause-first : goal.returns-in-Err-clause-first
+returns-in-Err-clause-first g c = rw (c.of_fault.ensures) (fault_yields WorldFault c.in-Err.fault _ _ c.in-Err.ensures.counts)
+
+pub returns-in-Err-clause-unread : goal.returns-in-Err-clause-unread
+returns-in-Err-clause-unread g c = rw (c.of_fault.ensures) (world_unread c.in-Err.fault)
+
+pub returns-in-Err-lay-clause-first : goal.returns-in-Err-lay-clause-first
+returns-in-Err-lay-clause-first g c = inl c.in_default.ensures.counts

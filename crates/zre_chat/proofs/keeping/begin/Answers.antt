@@ -4,6 +4,7 @@ use Rattle.std.specs.Str.{is_utf8}
 use Rattle.std.proofs.lemmas.Str.{IsUtf8-from_is_utf8}
 use Rattle.zre_commands.specs.declared.pump.status.Status.TheVariants.{WriteFault}
 use Rattle.zre_chat.proofs.Early.{refused_early}
+use Rattle.zre_chat.proofs.First.{fault_yields, write_unread}
 use Rattle.zre_chat.proofs.keeping.begin.Goals as goal
 
 pub unreachable-requires : goal.unreachable-requires
@@ -13,3 +14,9 @@ unreachable-requires g c =
 
 pub returns-clause-refused : goal.returns-clause-refused
 returns-clause-refused g c = rw (c.of_fault.ensures) (refused_early WriteFault c.in-Err.fault ⊥ ⊥ _ (λ is. c.in-Err.ensures.failed (ap Err is)))
+
+pub returns-clause-first : goal.returns-clause-first
+returns-clause-first g c = rw (c.of_fault.ensures) (fault_yields WriteFault c.in-Err.fault _ _ c.in-Err.ensures.counts)
+
+pub returns-clause-unread : goal.returns-clause-unread
+returns-clause-unread g c = rw (c.of_fault.ensures) (write_unread c.in-Err.fault)

@@ -1,5 +1,6 @@
 use Rattle.std.proofs.Common.{◌≡◌, ◌∙◌, ◌∷◌, [], true, length, length-append, refl, sym, ap, subst, arith}
 use Rattle.std.specs.Prelude.{option_map}
+use Rattle.zre_outside.specs.Causes.{raised}
 use Rattle.zre_gate.specs.Gate.{attended}
 use Rattle.zre_gate.proofs.Attended.{just_begun, one_attended}
 use Rattle.zre_gate.proofs.arrivals.attend.Goals as goal
@@ -10,6 +11,7 @@ each-init g c = let d = g.D.Desk in let place = c.args.place in record {
       (just_begun place (d.told c.args.desk.now) (d.told c.begin.new.self) c.in_ok-begin.ensures.told);
   many = (ap length c.requires.room.0, omega (arith, c.args.clients.now.ok.0, ap length c.requires.room.0));
   room = refl;
+  counts = c.in_ok-begin.ensures.counts;
   later = c.begin.ensures.later;
 }
 
@@ -19,11 +21,15 @@ each-preserved g c = let d = g.D.Desk in let place = c.args.place in let i = c.e
       (one_attended place c.each.clients.items c.in_ok-client.client (d.told c.args.desk.now) (d.told c.each.desk) (d.told c.next.new.self) i.told c.in_ok-client.ensures.told);
   many = (ap length c.push_reserved.ensures.items ∙ omega (arith, i.many.0, length-append c.each.clients.items (c.in_ok-client.client ∷ [])), omega (arith, i.many.1, c.push_reserved.ensures.len));
   room = c.push_reserved.ensures.capacity ∙ i.room;
+  counts = c.in_ok-client.ensures.counts ∙ i.counts;
   later = omega (arith, i.later, c.next.ensures.later);
 }
 
 pub returns-in_err-client-clause-attends : goal.returns-in_err-client-clause-attends
 returns-in_err-client-clause-attends g c = record { begun = true; is_told = c.in_err-client.ensures.refused ∙ c.each.invariant.told }
+
+pub returns-in_err-client-clause-counts : goal.returns-in_err-client-clause-counts
+returns-in_err-client-clause-counts g c = c.in_err-client.ensures.counts ∙ ap (option_map raised) c.each.invariant.counts
 
 pub returns-clause-attends : goal.returns-clause-attends
 returns-clause-attends g c = record { begun = true; is_told = c.each.invariant.told }

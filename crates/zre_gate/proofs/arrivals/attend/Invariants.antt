@@ -8,5 +8,6 @@ invariant-each g l = record {
   told : g.D.Desk.told l.desk ≡ option_map (attended true l.fn.place l.clients.items) (g.D.Desk.told l.fn.desk);
   many : (length l.clients.items ≡ l.counter) × (vec_len l.clients ≡ l.counter);
   room : vec_capacity l.clients ≡ vec_capacity l.fn.clients;
+  counts : g.D.Desk.refused l.desk ≡ g.D.Desk.refused l.fn.desk;
   later : g.D.Desk.faults l.fn.desk ≤ g.D.Desk.faults l.desk;
 }

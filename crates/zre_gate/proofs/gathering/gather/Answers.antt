@@ -14,7 +14,7 @@ loop-line-init g c =
       rest = sym c.into_iter-line-iterator.ensures.into_iter_gives.0;
       place = refl;
       room = (omega (arith, a.clients.ok, ap length c.requires.room.0), refl);
-      came = λ there known. subst (λ xs. ∥ Gathers there.limit [] (map (row i.left i.taken i.faults) xs) a.pass a.pass Done false ∥₁) (sym c.requires.room.0) ∣ none_gathered there.limit a.pass ∣₁;
+      came = λ there known. subst (λ xs. ∥ Gathers there.limit [] (map (row i.left i.taken i.faults i.refused) xs) a.pass a.pass Done false ∥₁) (sym c.requires.room.0) ∣ none_gathered there.limit a.pass ∣₁;
     }
 
 pub loop-line-preserved : goal.loop-line-preserved

@@ -20,7 +20,7 @@ absorb-pass-requires g c = (
 pub returns-clause-gathers : goal.returns-clause-gathers
 returns-clause-gathers g c = λ there first known gathers. (
     let i = g.C.Source in let came = c.wait_for-answer in let a = came.result.done in let old = c.args.gathered in
-    let look = row i.left i.taken i.faults in
+    let look = row i.left i.taken i.faults i.refused in
     ∥∥₁_elim (subst (λ p. ∥ IsAnswer g.B.GateName.hall p (look a.input) a.pass a.end ∥₁) came.ensures came.result.known) ∥∥₁_prop (λ answered.
     ∥∥₁_map gathers (λ gs.
     subst (λ l. Gathers there.limit (take (c.args.place + 1) there.guests) l first c.absorb-pass.result c.with_client.result c.either.result) (sym (ap (map look) c.push_reserved.ensures.items ∙ map-append look old.clients.items (a.input ∷ [])))

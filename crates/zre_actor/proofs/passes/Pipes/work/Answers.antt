@@ -5,7 +5,9 @@ use Rattle.zre_outside.specs.declared.turn.Turn.{Turn}
 use Rattle.zre_outside.specs.Worlds.{IsTurn, is_look, after_turn}
 use Rattle.zre_outside.proofs.Rising.{rose_since}
 use Rattle.zre_actor.specs.declared.ending.Ending.TheVariants as ending
-use Rattle.zre_actor.specs.Work.{Broke, Went, scene, world_ending}
+use Rattle.zre_outside.specs.Refusals.{refused_after}
+use Rattle.zre_actor.specs.Work.{Broke, Went, scene, world_ending, is_world_fault, is_record_fault}
+use Rattle.zre_actor.proofs.Refused.{left_with, spared, world_refused, record_spared}
 use Rattle.zre_actor.proofs.Working as working
 use Rattle.zre_actor.proofs.passes.Pipes.work.Goals as goal
 use Rattle.zre_actor.proofs.passes.Pipes.work.Goals.{in-Look, in-Look+else-turn-limit, in-Entry+in-Ok-take_entry}
@@ -20,6 +22,8 @@ loop-turn-init g c = record {
   unkept = λ _. refl;
   begun = refl;
   named = Keeps-refl (g.R.Recorder.named c.args.rec);
+  world = refl;
+  record_ = refl;
   running = λ f K here. working.running_start f K c.args.keep c.args.limit
       (scene (g.W.World.told c.args.world) (g.W.World.looked c.args.world) (g.W.World.faults c.args.world) (g.R.Recorder.kept c.args.rec) (g.R.Recorder.faults c.args.rec) c.args.pass) c.args.node here;
 }
@@ -99,7 +103,7 @@ returns-clause-work g c = λ f K here. (
     let k = l.invariant.running f K here in
     let last : l.turn ≡ c.args.limit = omega (arith, c.loop-turn-test.false) in
     working.handed_back f K c.args.keep c.args.limit s t _ n.node _ c.last_ending-ending.result _
-    (working.leaves_at_end f K c.args.keep c.args.limit s l.turn t n.node l.command d.before k (l.invariant.last last) last c.last_ending-ending.result (c.last_ending-ending.ensures f (K ++ k.ran.entries) k.ran.node))
+    (working.leaves_at_end f K c.args.keep c.args.limit s l.turn t n.node l.command d.before k (l.invariant.last last) last c.last_ending-ending.result (c.last_ending-ending.ensures.stopped f (K ++ k.ran.entries) k.ran.node))
     (λ i. record { told = w.told (same.0 i); looked = w.looked (same.0 i); world_faults = w.faults (same.0 i); kept = r.kept (same.2 i); record_faults = r.faults (same.2 i); popped = p.0 i; raised = p.1 i; empties = p.2 i })
     same.1 same.3)
 
@@ -120,6 +124,8 @@ loop-turn-preserved g c =
             unkept = h.unkept;
             begun = h.begun;
             named = h.named;
+            world = c.in-Ok.ensures.counts ∙ h.world;
+            record_ = h.record_;
             running = λ f K here. (let k = h.running f K here in
                 let u = scene (w.told x) (w.looked x) (w.faults x) (r.kept d.rec) (r.faults d.rec) m.pop.result.0 in
                 let going = sym (c.stopped.ensures f (K ++ k.ran.entries) k.ran.node) ∙ c.if-stopped.false in
@@ -140,6 +146,8 @@ loop-turn-preserved g c =
             unkept = h.unkept;
             begun = h.begun;
             named = h.named;
+            world = c.in-Ok.ensures.counts ∙ h.world;
+            record_ = h.record_;
             running = λ f K here. (let k = h.running f K here in
                 let u = scene (w.told x) (w.looked x) (w.faults x) (r.kept d.rec) (r.faults d.rec) l.pass in
                 let looks : working.Looks f K c.args.keep c.args.limit s l.turn t n.node l.command d.before k u = record { told = facts.1; looked = facts.2; calm = record { raised = refl; kept = refl; world_later = c.in-Ok.ensures.later; record_same = refl } } in
@@ -157,6 +165,8 @@ loop-turn-preserved g c =
             unkept = λ i. took.unkept (h.keep ∙ i) ∙ h.unkept i;
             begun = took.begun ∙ h.begun;
             named = Keeps-trans (r.named c.args.rec) (r.named d.rec) (r.named z.recording.rec) h.named took.named;
+            world = took.world.2 ∙ c.in-Ok.ensures.counts ∙ h.world;
+            record_ = m.in-Ok-take_entry.ensures.counts ∙ h.record_;
             running = λ f K here. (let k = h.running f K here in
                 let u = scene (w.told z.world) (w.looked z.world) (w.faults z.world) (r.kept z.recording.rec) (r.faults z.recording.rec) m.raise_all-pass.result in
                 let gives : working.Gives f K c.args.keep c.args.limit s l.turn t n.node l.command d.before k m.in-Entry.entry (w.told x) u = record {
@@ -174,3 +184,35 @@ loop-turn-preserved g c =
                 (subst (λ (keep : Bool). Went f (K ++ k.ran.entries) m.in-Entry.entry keep d.before (w.told x) u.told t.kept u.kept z.node z.step.events) h.keep (m.in-Ok-take_entry.ensures.ok f (K ++ k.ran.entries) k.ran.node)) m.raise_all-pass.ensures.raised);
           })
     ]
+
+-- ---- the calls that were refused
+
+pub returns-then-stopped-clause-counts : goal.returns-then-stopped-clause-counts
+returns-then-stopped-clause-counts g c =
+    let w = g.W.World in let r = g.R.Recorder in let h = c.loop-turn.invariant in let same = c.leave.ensures.same in (
+      left_with is_world_fault _ ending.Stopped _ _ _ (ap w.refused same.0) h.world same.3,
+      left_with is_record_fault _ ending.Stopped _ _ _ (ap r.refused same.2) h.record_ same.3,
+    )
+
+pub returns-in-Err-clause-counts : goal.returns-in-Err-clause-counts
+returns-in-Err-clause-counts g c =
+    let w = g.W.World in let r = g.R.Recorder in let h = c.loop-turn.invariant in let same = c.leave-in-Err.ensures.same in let f = c.in-Err.fault in
+    let end = same.3 ∙ c.ending_by.ensures in (
+      left_with is_world_fault _ (world_ending f) _ _ _ (ap w.refused same.0) (world_refused f _ _ _ c.in-Err.ensures.counts h.world) end,
+      left_with is_record_fault _ (world_ending f) _ _ _ (ap r.refused same.2) (record_spared f _ _ h.record_) end,
+    )
+
+pub returns-in-Err-take_entry-clause-counts : goal.returns-in-Err-take_entry-clause-counts
+returns-in-Err-take_entry-clause-counts g c =
+    let w = g.W.World in let r = g.R.Recorder in let h = c.loop-turn.invariant in let same = c.leave-in-Err-take_entry.ensures.same in let x = c.in-Err-take_entry in (
+      left_with is_world_fault _ x.ending _ _ _ (ap w.refused same.0)
+          (spared (is_world_fault x.ending) _ _ x.ensures.inside (c.take_entry.ensures.world.2 ∙ c.in-Ok.ensures.counts ∙ h.world)) same.3,
+      left_with is_record_fault _ x.ending _ _ _ (ap r.refused same.2) (x.ensures.counts ∙ ap (refused_after (is_record_fault x.ending)) h.record_) same.3,
+    )
+
+pub returns-clause-counts : goal.returns-clause-counts
+returns-clause-counts g c =
+    let w = g.W.World in let r = g.R.Recorder in let h = c.loop-turn.invariant in let same = c.leave-2.ensures.same in let e = c.last_ending-ending in (
+      left_with is_world_fault _ e.result _ _ _ (ap w.refused same.0) (spared (is_world_fault e.result) _ _ e.ensures.inside.0 h.world) same.3,
+      left_with is_record_fault _ e.result _ _ _ (ap r.refused same.2) (spared (is_record_fault e.result) _ _ e.ensures.inside.1 h.record_) same.3,
+    )

@@ -18,6 +18,8 @@ invariant-loop-turn g l = record {
   unkept : l.keep ≡ false → l.actor.recording.rec ≡ l.fn.rec;
   begun : g.R.Recorder.begun l.actor.recording.rec ≡ g.R.Recorder.begun l.fn.rec;
   named : Keeps (g.R.Recorder.named l.fn.rec) (g.R.Recorder.named l.actor.recording.rec);
+  world : g.W.World.refused l.actor.world ≡ g.W.World.refused l.fn.world;
+  record_ : g.R.Recorder.refused l.actor.recording.rec ≡ g.R.Recorder.refused l.fn.rec;
   running : (c : Config) (K : List Entry) → StandsFor c K l.fn.node → Running c K l.keep l.limit
       (scene (g.W.World.told l.fn.world) (g.W.World.looked l.fn.world) (g.W.World.faults l.fn.world) (g.R.Recorder.kept l.fn.rec) (g.R.Recorder.faults l.fn.rec) l.fn.pass)
       l.turn (scene (g.W.World.told l.actor.world) (g.W.World.looked l.actor.world) (g.W.World.faults l.actor.world) (g.R.Recorder.kept l.actor.recording.rec) (g.R.Recorder.faults l.actor.recording.rec) l.pass) l.actor.node l.command l.actor.recording.before;

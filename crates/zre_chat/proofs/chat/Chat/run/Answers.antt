@@ -1,6 +1,8 @@
 use Rattle.std.proofs.Common.{◌∙◌, refl, sym}
+use mathlib.Core.Logic.{inl}
 use Rattle.zre_chat.specs.Chat.{seen}
 use Rattle.zre_chat.proofs.Callers.{two_apart}
+use Rattle.zre_chat.proofs.First.{yields_since}
 use Rattle.zre_chat.proofs.Whole.{prepared, unprepared, there}
 use Rattle.zre_chat.proofs.chat.Chat.run.Goals as goal
 
@@ -24,3 +26,17 @@ returns-in-Ok-clause-chat g c =
     let u = seen (i.left a.input) (i.taken a.input) (i.faults a.input) (w.told x) (w.faults x) (o.written a.out.now) (o.faults a.out.now) (r.kept n) (r.named n) (r.faults n) (g.P.Spawner.faults a.spawner.now) in
     c.converse.ensures.chat a.self.config a.self.start a.self.capture s c.in-Ok.ensures.node
     (prepared a.self.config a.self.start a.self.capture a.limit c.are_values.ensures c.is_some-keep.result (r.begun n) s u refl c.in-Ok.ensures.opened c.prepare.ensures.later c.is_some-keep.ensures)
+
+pub returns-in-Err-clause-first : goal.returns-in-Err-clause-first
+returns-in-Err-clause-first g c = let f = c.in-Err.ensures.first in record { written = inl refl; recorded = f.1; given = f.0; started = inl refl }
+
+pub returns-in-Err-clause-read : goal.returns-in-Err-clause-read
+returns-in-Err-clause-read g c = inl (refl, c.in-Err.ensures.unread)
+
+pub returns-in-Ok-clause-first : goal.returns-in-Ok-clause-first
+returns-in-Ok-clause-first g c = let f = c.converse.ensures.first in record {
+  written = f.written;
+  recorded = yields_since _ _ _ _ (λ e. e ∙ c.in-Ok.ensures.counts.1) f.recorded;
+  given = yields_since _ _ _ _ (λ e. e ∙ c.in-Ok.ensures.counts.0) f.given;
+  started = f.started;
+}

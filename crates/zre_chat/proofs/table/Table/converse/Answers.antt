@@ -1,4 +1,6 @@
-use Rattle.std.proofs.Common.{◌≡◌, ◌∙◌, ◌∷◌, [], true, true≢false, length, ap, sym, subst, arith, ⊎_elim}
+use Rattle.std.proofs.Common.{◌≡◌, ◌∙◌, ◌∷◌, [], true, true≢false, length, refl, ap, sym, subst, arith, ⊎_elim}
+use mathlib.Core.Logic.{inl, inr}
+use Rattle.zre_outside.specs.Refusals.{refused_after}
 use Rattle.std.specs.Prelude.{option_map}
 use Rattle.std.specs.Io.KnownBytes.{Keeps}
 use Rattle.std.specs.Arc.{arc_value}
@@ -6,13 +8,15 @@ use Rattle.zre_outside.specs.Causes.{Rose}
 use Rattle.zre_outside.proofs.Rising.{rose_since}
 use Rattle.zre_node.specs.Journal.{StandsFor}
 use Rattle.zre_actor.specs.Passes.{IsActorOf, IsCallerOf, unused_by}
-use Rattle.zre_actor.specs.Work.{IsWork, scene}
+use Rattle.zre_actor.specs.Work.{IsWork, scene, is_world_fault, is_record_fault}
 use Rattle.zre_actor.proofs.Given.{two_alone}
 use Rattle.zre_commands.specs.declared.pump.status.Status.{Status}
 use Rattle.zre_commands.specs.declared.pump.status.Status.TheVariants.{NoThread}
 use Rattle.zre_chat.specs.Chat.{IsChat, Seen, seen}
-use Rattle.zre_chat.specs.Statuses.{least, of_print, of_work, of_thread}
+use Rattle.zre_console.specs.reader.Reading.{EndsByRefusal}
+use Rattle.zre_chat.specs.Statuses.{least, of_read, of_print, of_work, of_thread}
 use Rattle.zre_chat.proofs.Asker.{asker_ended}
+use Rattle.zre_chat.proofs.First.{below_self, first_of_all, reads_so, thread_unread}
 use Rattle.zre_chat.proofs.Rows.{thread_isnt}
 use Rattle.zre_chat.proofs.Talked.{talked}
 use Rattle.zre_chat.proofs.Whole.{untalked, head_only}
@@ -73,3 +77,32 @@ settle-requires-clause-back g c =
     let many = two_alone done.pass printed.pass (told.ensures.done.2.puts.same_ended ∙ l.last.2.0)
     (asker_ended x.printer.asker told.result.refused x.printer.taker printed.taker printed.pass printed.fault (o.written c.args.out.now) (o.written told.new.out) told.ensures.printed ∙ l.new_asker.0) in
     omega (arith, many, ap length (c.join-worked.ensures.1 ∙ ap (λ j. unused_by j.3) c.in-Ok.ensures.started), l.seat.unused)
+
+-- ---- the first of what occurred
+
+pub returns-in-Err-clause-first : goal.returns-in-Err-clause-first
+returns-in-Err-clause-first g c = let back = c.in-Err.ensures.refused in record {
+  written = inl refl;
+  recorded = inl (ap (λ x. g.R.Recorder.refused x.1) back);
+  given = inl (ap (λ x. g.W.World.refused x.0) back);
+  started = inr (below_self 7);
+}
+
+pub returns-in-Err-clause-read : goal.returns-in-Err-clause-read
+returns-in-Err-clause-read g c = inl (refl, thread_unread)
+
+pub returns-clause-first : goal.returns-clause-first
+returns-clause-first g c =
+    let w = g.W.World in let r = g.R.Recorder in let told = c.hold_talk-talk in let out = c.join-worked.result in let means = c.join-worked.ensures in let began = c.in-Ok.ensures.started in let same = c.settle.ensures.same in
+    let is = c.settle.ensures.status ∙ ap (λ k. least (k ∷ of_print told.result.printed.fault ∷ of_work out.ending ∷ of_thread told.result.refused ∷ [])) c.of_read.ensures in
+    let gave = subst (λ j. w.refused out.world ≡ refused_after (is_world_fault out.ending) (w.refused j.1)) began means.7 in
+    let kept = subst (λ j. r.refused out.rec ≡ refused_after (is_record_fault out.ending) (r.refused j.4)) began means.8 in
+    first_of_all (of_read told.result.done.end) told.result.printed.fault out.ending told.result.refused c.settle.result.status _ _ _ _ _ _ is
+    told.ensures.written (ap r.refused same.2 ∙ kept) (ap w.refused same.1 ∙ gave) (λ none. (told.ensures.counts none).1 ∙ c.in-Ok.ensures.counts)
+
+pub returns-clause-read : goal.returns-clause-read
+returns-clause-read g c =
+    let i = g.I.Source in let told = c.hold_talk-talk in let out = c.join-worked.result in let same = c.settle.ensures.same in
+    let is = c.settle.ensures.status ∙ ap (λ k. least (k ∷ of_print told.result.printed.fault ∷ of_work out.ending ∷ of_thread told.result.refused ∷ [])) c.of_read.ensures in
+    reads_so told.result.done.end told.result.printed.fault out.ending told.result.refused c.settle.result.status (i.refused c.args.input) (i.refused c.settle.result.input) is
+    (subst (λ x. EndsByRefusal told.result.done.end (i.refused c.args.input) (i.refused x)) (sym same.0) told.ensures.done.3)

@@ -18,4 +18,5 @@ returns g c = let i = g.I.Source in let job = c.args.self in
         puts = puts-none job.pass;
         outcome = (nothing_begins [], inl refl, inl ([], refl));
       },
+      refl,
     )

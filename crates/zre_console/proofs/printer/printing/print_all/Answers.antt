@@ -20,6 +20,7 @@ loop-init g c = let o = g.O.Sink in record {
     calm = λ none is. is;
   };
   later = omega arith;
+  counts = λ none. refl;
   failed = λ is. absurd (let x = sym (ap (λ p. p.fault) c.new-page.ensures) ∙ is in cc);
 }
 
@@ -30,6 +31,7 @@ loop-preserved g c = let o = g.O.Sink in let h = c.loop.invariant in let n = c.p
   open_ = subst (λ b. IsLast b (last_of n.result.0)) c.if-is_last.false n.ensures.last;
   prints = n.ensures.prints c.args.asker c.args.taker (o.written c.args.out.now) h.prints;
   later = omega (arith, h.later, n.ensures.later);
+  counts = λ none. n.ensures.counts none ∙ h.counts (n.ensures.calm none);
   failed = λ is. ⊎_elim (λ was. rose_still (o.faults c.args.out.now) (o.faults c.loop.out) (o.faults n.new.out) n.ensures.later (h.failed was)) (λ rose. rose_since (o.faults c.args.out.now) (o.faults c.loop.out) (o.faults n.new.out) h.later rose) (n.ensures.failed is);
 }
 
@@ -41,3 +43,7 @@ returns-then-is_last-clause-printed g c = let o = g.O.Sink in let h = c.loop.inv
 pub returns-then-is_last-clause-failed : goal.returns-then-is_last-clause-failed
 returns-then-is_last-clause-failed g c = let o = g.O.Sink in let h = c.loop.invariant in let n = c.print_next-pass in
     λ is. ⊎_elim (λ was. rose_still (o.faults c.args.out.now) (o.faults c.loop.out) (o.faults n.new.out) n.ensures.later (h.failed was)) (λ rose. rose_since (o.faults c.args.out.now) (o.faults c.loop.out) (o.faults n.new.out) h.later rose) (n.ensures.failed is)
+
+pub returns-then-is_last-clause-counts : goal.returns-then-is_last-clause-counts
+returns-then-is_last-clause-counts g c = let h = c.loop.invariant in let n = c.print_next-pass in
+    λ none. n.ensures.counts none ∙ h.counts (n.ensures.calm none)

@@ -12,5 +12,6 @@ invariant-loop g l = record {
   open_ : last_of l.taker ≡ None;
   prints : Prints l.fn.asker l.fn.taker (g.O.Sink.written l.fn.out) l.asker l.taker l.page (g.O.Sink.written l.out);
   later : g.O.Sink.faults l.fn.out ≤ g.O.Sink.faults l.out;
+  counts : l.page.fault ≡ None → g.O.Sink.refused l.out ≡ g.O.Sink.refused l.fn.out;
   failed : l.page.fault ≡ Some Failed → Rose (g.O.Sink.faults l.fn.out) (g.O.Sink.faults l.out);
 }

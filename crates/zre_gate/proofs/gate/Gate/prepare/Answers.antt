@@ -1,10 +1,12 @@
 use Rattle.std.proofs.Common.{◌≡◌, ◌∙◌, false, true, [], List, Option, refl, sym, subst}
 use Rattle.std.specs.Prelude.{option_map}
+use mathlib.Core.Logic.{inl, inr}
 use Rattle.std.proofs.lemmas.Result.{err_from_is_err_and}
 use Rattle.zre_values.specs.declared.endpoint.Endpoint.{Endpoint}
 use Rattle.zre_outside.specs.Desks.{Register}
 use Rattle.zre_commands.specs.declared.pump.status.Status.TheVariants.{OutOfMemory}
 use Rattle.zre_chat.proofs.Early.{not_begun, not_entered}
+use Rattle.zre_chat.proofs.First.{below_self}
 use Rattle.zre_chat.proofs.Whole.{none_started}
 use Rattle.zre_gate.specs.Gate.{attended}
 use Rattle.zre_gate.specs.Stages.{Attends}
@@ -50,3 +52,27 @@ returns-in_err-base-clause-refused g c =
 
 pub returns-clause-refused : goal.returns-clause-refused
 returns-clause-refused g c = record { begun = true; is_told = c.in_ok-base.ensures.told; cause = tt; holds = λ file is isnt still. absurd (isnt refl) }
+
+-- ---- the first of what occurred
+
+pub returns-in_err-begin-clause-first : goal.returns-in_err-begin-clause-first
+returns-in_err-begin-clause-first g c =
+    let p = err_from_is_err_and c.from_residual.result c.from_residual.ensures.1 in
+    rw (p.1, p.2) (c.in_err-begin.ensures.first, inl refl, inl refl)
+
+pub returns-in-Err-clause-first : goal.returns-in-Err-clause-first
+returns-in-Err-clause-first g c = (inl c.in_ok-begin.ensures.counts, inl refl, inr (below_self 10))
+
+pub returns-in_err-base-clause-first : goal.returns-in_err-base-clause-first
+returns-in_err-base-clause-first g c =
+    let p = err_from_is_err_and c.from_residual-in_err-base.result c.from_residual-in_err-base.ensures.1 in
+    rw (p.1, p.2) (inl c.in_ok-begin.ensures.counts, c.in_err-base.ensures.first, inl c.in_default.ensures.counts)
+
+pub returns-in-Ok-clause-counts : goal.returns-in-Ok-clause-counts
+returns-in-Ok-clause-counts g c = (c.in_ok-begin.ensures.counts, c.in_ok-base.ensures.counts, c.in_default.ensures.counts)
+
+pub returns-clause-first : goal.returns-clause-first
+returns-clause-first g c = (inl c.in_ok-begin.ensures.counts, inl c.in_ok-base.ensures.counts, inl c.in_default.ensures.counts)
+
+pub returns-then-is_err-clause-first : goal.returns-then-is_err-clause-first
+returns-then-is_err-clause-first g c = (inl refl, inl refl, inl refl)

@@ -1,5 +1,7 @@
 use Rattle.std.proofs.Common.{◌∙◌, true, map, refl, sym, subst}
+use mathlib.Core.Logic.{inl}
 use Rattle.zre_outside.specs.Causes.{Rose}
+use Rattle.zre_chat.proofs.First.{yields_since}
 use Rattle.zre_chat.proofs.Whole.{head_only, prepared, there}
 use Rattle.zre_gate.specs.Clients.{row}
 use Rattle.zre_gate.specs.Gate.{IsGate, seen_beside}
@@ -10,7 +12,7 @@ use Rattle.zre_gate.proofs.gate.Gate.run.Goals as goal
 pub returns-in-Err-clause-gate : goal.returns-in-Err-clause-gate
 returns-in-Err-clause-gate g c =
     let k = g.D.Desk in let w = g.W.World in let o = g.O.Sink in let r = g.R.Recorder in let a = c.args in
-    let look = row g.D.Client.Source.left g.D.Client.Source.taken g.D.Client.Source.faults in
+    let look = row g.D.Client.Source.left g.D.Client.Source.taken g.D.Client.Source.faults g.D.Client.Source.refused in
     let opened = c.prepare in let n = opened.new.rec in let x = opened.new.world in let d = opened.new.desk in let u = c.in-Err.ensures.refused in let at = opened.ensures.attends in
     let s = seen_beside (w.told a.world) (w.faults a.world) (o.written a.out.now) (o.faults a.out.now) (r.kept a.rec) (r.named a.rec) (r.faults a.rec) (g.P.Spawner.faults a.spawner.now) in
     let t = seen_beside (w.told x) (w.faults x) (o.written a.out.now) (o.faults a.out.now) (r.kept n) (r.named n) (r.faults n) (g.P.Spawner.faults a.spawner.now) in
@@ -34,7 +36,7 @@ serve-served-requires-clause-begun g c κs within = λ is. (let name = there c.a
 pub returns-in-Ok-clause-gate : goal.returns-in-Ok-clause-gate
 returns-in-Ok-clause-gate g c =
     let k = g.D.Desk in let w = g.W.World in let o = g.O.Sink in let r = g.R.Recorder in let a = c.args in let chat = a.self.chat in
-    let look = row g.D.Client.Source.left g.D.Client.Source.taken g.D.Client.Source.faults in
+    let look = row g.D.Client.Source.left g.D.Client.Source.taken g.D.Client.Source.faults g.D.Client.Source.refused in
     let opened = c.prepare in let n = opened.new.rec in let x = opened.new.world in let served = c.serve-served in let all = c.in-Ok.ensures.all in
     let s = seen_beside (w.told a.world) (w.faults a.world) (o.written a.out.now) (o.faults a.out.now) (r.kept a.rec) (r.named a.rec) (r.faults a.rec) (g.P.Spawner.faults a.spawner.now) in
     let u = seen_beside (w.told x) (w.faults x) (o.written a.out.now) (o.faults a.out.now) (r.kept n) (r.named n) (r.faults n) (g.P.Spawner.faults a.spawner.now) in
@@ -48,3 +50,21 @@ returns-in-Ok-clause-gate g c =
           (served.ensures.gate chat.config chat.start chat.capture s (k.faults a.desk) (k.faults opened.new.desk) c.in-Ok.ensures.laid.1
           (prepared chat.config chat.start chat.capture a.limit c.are_values.ensures c.is_some-keep.result (r.begun n) s u refl c.in-Ok.ensures.opened opened.ensures.later c.is_some-keep.ensures));
     })
+
+-- ---- the first of what occurred
+
+pub returns-in-Err-clause-first : goal.returns-in-Err-clause-first
+returns-in-Err-clause-first g c = let f = c.in-Err.ensures.first in
+    rw (c.ended-in-Err.ensures) (record { written = inl refl; recorded = f.0; given = f.1; started = inl refl }, f.2)
+
+pub returns-in-Ok-clause-first : goal.returns-in-Ok-clause-first
+returns-in-Ok-clause-first g c = let f = c.serve-served.ensures.first in let same = c.in-Ok.ensures.counts in
+    rw (c.ended.ensures) (
+      record {
+        written = f.written;
+        recorded = yields_since _ _ _ _ (λ e. e ∙ same.0) f.recorded;
+        given = yields_since _ _ _ _ (λ e. e ∙ same.1) f.given;
+        started = f.started;
+      },
+      inl same.2,
+    )

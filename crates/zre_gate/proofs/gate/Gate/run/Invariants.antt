@@ -8,5 +8,5 @@ use Rattle.zre_gate.proofs.gate.Gate.run.Given as goal
 abbrev pub ghosts-serve : goal.ghosts-serve
 ghosts-serve g a = record {
   hall = Some (hall_of (arc_value a.self.base.others.printer.pipes) a.work.limit (map chair_number a.self.chairs.items)
-      (map (row g.D.Client.Source.left g.D.Client.Source.taken g.D.Client.Source.faults) a.clients.items));
+      (map (row g.D.Client.Source.left g.D.Client.Source.taken g.D.Client.Source.faults g.D.Client.Source.refused) a.clients.items));
 }

@@ -1,18 +1,21 @@
 use Rattle.std.proofs.Common.{◌≡◌, ◌≤◌, ◌∙◌, ◌∷◌, [], List, true, length, map, refl, sym, ap, subst, arith, ⊎_elim}
 use Rattle.std.specs.Prelude.{option_map}
+use mathlib.Core.Logic.{inl, inr}
 use Rattle.std.specs.Io.KnownBytes.{Keeps}
 use Rattle.std.specs.Arc.{arc_value}
 use Rattle.std.proofs.Math.Logic.{∥∥₁_elim}
 use Rattle.std.proofs.lemmas.List.{length-map}
 use Rattle.zre_outside.specs.Causes.{Rose}
+use Rattle.zre_outside.specs.Refusals.{refused_after}
 use Rattle.zre_node.specs.Journal.{StandsFor}
 use Rattle.zre_actor.specs.Commands.{times}
 use Rattle.zre_actor.specs.Passes.{IsActorOf, IsCallerOf, number, unused_by}
-use Rattle.zre_actor.specs.Work.{IsWork, scene}
+use Rattle.zre_actor.specs.Work.{IsWork, scene, is_world_fault, is_record_fault}
 use Rattle.zre_actor.proofs.Given.{how_back}
 use Rattle.zre_commands.specs.declared.pump.status.Status.{Status}
 use Rattle.zre_commands.specs.declared.pump.status.Status.TheVariants.{NoThread, OutOfMemory}
 use Rattle.zre_chat.specs.Chat.{Seen}
+use Rattle.zre_chat.proofs.First.{below_self, first_of_all}
 use Rattle.zre_chat.proofs.Rows.{memory_isnt, thread_isnt}
 use Rattle.zre_chat.proofs.Asker.{asker_ended}
 use Rattle.zre_chat.proofs.Whole.{head_only}
@@ -32,7 +35,7 @@ pub returns-in_default-clause-gate : goal.returns-in_default-clause-gate
 returns-in_default-clause-gate g c = λ f start name s before after stands p. (
     let desk = Rose before after in
     let w = g.W.World in let o = g.O.Sink in let r = g.R.Recorder in let a = c.args in
-    let rows = map (row g.C.Source.left g.C.Source.taken g.C.Source.faults) a.clients.items in
+    let rows = map (row g.C.Source.left g.C.Source.taken g.C.Source.faults g.C.Source.refused) a.clients.items in
     unopened f start name a.work.limit (length a.clients.items) s
     (seen_beside (w.told a.work.world) (w.faults a.work.world) (o.written a.out.now) (o.faults a.out.now) (r.kept a.work.rec) (r.named a.work.rec) (r.faults a.work.rec) (g.P.Spawner.faults a.spawner.now))
     desk rows true OutOfMemory (λ _. p.are_settings) (ap (λ x. x.written) p.same) p.told memory_isnt tt (λ file is isnt still. absurd (isnt refl)))
@@ -42,7 +45,7 @@ pub returns-in-Err-clause-gate : goal.returns-in-Err-clause-gate
 returns-in-Err-clause-gate g c = λ f start name s before after stands p. (
     let desk = Rose before after in
     let w = g.W.World in let o = g.O.Sink in let r = g.R.Recorder in let a = c.args in
-    let rows = map (row g.C.Source.left g.C.Source.taken g.C.Source.faults) a.clients.items in
+    let rows = map (row g.C.Source.left g.C.Source.taken g.C.Source.faults g.C.Source.refused) a.clients.items in
     let back = c.in-Err.ensures.refused in
     let world = c.in-Err.world in let rec_ = c.in-Err.rec in
     let kept = ap (λ x. r.kept x.1) back in
@@ -60,7 +63,7 @@ pub returns-clause-gate : goal.returns-clause-gate
 returns-clause-gate g c = λ f start name s before after stands p. (
     let desk = Rose before after in
     let w = g.W.World in let o = g.O.Sink in let r = g.R.Recorder in let a = c.args in let l = c.requires.laid in
-    let look = row g.C.Source.left g.C.Source.taken g.C.Source.faults in
+    let look = row g.C.Source.left g.C.Source.taken g.C.Source.faults g.C.Source.refused in
     let rows = map look a.clients.items in
     let numbers = map chair_number a.self.chairs.items in
     let even = length-map a.self.chairs.items chair_number ∙ l.many_chairs ∙ sym (length-map a.clients.items look) in
@@ -94,7 +97,7 @@ returns-clause-gate g c = λ f start name s before after stands p. (
 pub invariant_of-job : goal.invariant_of-job
 invariant_of-job g c =
     let l = c.requires.laid in let a = c.args in
-    let look = row g.C.Source.left g.C.Source.taken g.C.Source.faults in
+    let look = row g.C.Source.left g.C.Source.taken g.C.Source.faults g.C.Source.refused in
     let rows = map look a.clients.items in
     let numbers = map chair_number a.self.chairs.items in
     let even = length-map a.self.chairs.items chair_number ∙ l.many_chairs ∙ sym (length-map a.clients.items look) in record {
@@ -121,10 +124,32 @@ settle-requires-clause-back g c =
     let l = c.requires.laid in let told = c.hold_talk-talk in let a = c.args in let o = g.O.Sink in
     let done = told.result.done in let printed = told.result.printed in
     let numbers = map chair_number a.self.chairs.items in
-    let rows = map (row g.C.Source.left g.C.Source.taken g.C.Source.faults) a.clients.items in
-    let even = length-map a.self.chairs.items chair_number ∙ l.many_chairs ∙ sym (length-map a.clients.items (row g.C.Source.left g.C.Source.taken g.C.Source.faults)) in
+    let rows = map (row g.C.Source.left g.C.Source.taken g.C.Source.faults g.C.Source.refused) a.clients.items in
+    let even = length-map a.self.chairs.items chair_number ∙ l.many_chairs ∙ sym (length-map a.clients.items (row g.C.Source.left g.C.Source.taken g.C.Source.faults g.C.Source.refused)) in
     let close = told.ensures.done.1 (hall_of (arc_value a.self.base.others.printer.pipes) a.work.limit numbers rows) c.requires.hall in
     let many = how_back done.pass printed.pass (length a.clients.items)
-    (∥∥₁_elim close (nat_prop _ _) (λ k. closed_ended _ _ _ _ _ _ k l.base.last.2.0) ∙ guests_length numbers rows even ∙ length-map a.clients.items (row g.C.Source.left g.C.Source.taken g.C.Source.faults))
+    (∥∥₁_elim close (nat_prop _ _) (λ k. closed_ended _ _ _ _ _ _ k l.base.last.2.0) ∙ guests_length numbers rows even ∙ length-map a.clients.items (row g.C.Source.left g.C.Source.taken g.C.Source.faults g.C.Source.refused))
     (asker_ended a.self.base.others.printer.asker told.result.refused a.self.base.others.printer.taker printed.taker printed.pass printed.fault (o.written a.out.now) (o.written told.new.out) told.ensures.printed ∙ l.base.new_asker.0) in
     omega (arith, many, ap length (c.join-worked.ensures.1 ∙ ap (λ j. unused_by j.3) c.in-Ok-start_node.ensures.started), l.base.seat.unused)
+
+-- ---- the first of what occurred
+
+pub returns-in_default-clause-first : goal.returns-in_default-clause-first
+returns-in_default-clause-first g c = record { written = inl refl; recorded = inl refl; given = inl refl; started = inl refl }
+
+pub returns-in-Err-clause-first : goal.returns-in-Err-clause-first
+returns-in-Err-clause-first g c = let back = c.in-Err.ensures.refused in record {
+  written = inl refl;
+  recorded = inl (ap (λ x. g.R.Recorder.refused x.1) back);
+  given = inl (ap (λ x. g.W.World.refused x.0) back);
+  started = inr (below_self 7);
+}
+
+pub returns-clause-first : goal.returns-clause-first
+returns-clause-first g c =
+    let w = g.W.World in let r = g.R.Recorder in let told = c.hold_talk-talk in let out = c.join-worked.result in let means = c.join-worked.ensures in let began = c.in-Ok-start_node.ensures.started in let same = c.settle.ensures.same in
+    let gave = subst (λ j. w.refused out.world ≡ refused_after (is_world_fault out.ending) (w.refused j.1)) began means.7 in
+    let kept = subst (λ j. r.refused out.rec ≡ refused_after (is_record_fault out.ending) (r.refused j.4)) began means.8 in
+    first_of_all told.result.done.status told.result.printed.fault out.ending told.result.refused c.settle.result.status _ _ _ _ _ _ c.settle.ensures.status
+    told.ensures.written (ap r.refused same.2 ∙ kept) (ap w.refused same.1 ∙ gave)
+    (λ none. (told.ensures.counts none).1 ∙ c.seat_all-seated.ensures.counts (told.ensures.counts none).0 ∙ c.in-Ok-start_node.ensures.counts)

@@ -15,7 +15,7 @@ pub invariant_of-job : goal.invariant_of-job
 invariant_of-job g c =
     let s = g.C.Source in let i = c.loop-input.invariant in let hall = c.requires.hall in let chair = c.in-Some-pop_front.chair in
     record {
-      known = ∣ seated_guest (row s.left s.taken s.faults) g.B.GateName.hall hall.0 c.args.self.limit c.args.self.chairs.items i.chairs.0 c.pop_front.new.self.items chair
+      known = ∣ seated_guest (row s.left s.taken s.faults s.refused) g.B.GateName.hall hall.0 c.args.self.limit c.args.self.chairs.items i.chairs.0 c.pop_front.new.self.items chair
           c.args.clients.items c.loop-input.yielded (into_iter_items c.next.new.self) c.in-Some.input c.loop-input.place hall.1 hall.2
           (i.chairs.1 ∙ ap (λ l. i.chairs.0 ++ l) c.in-Some-pop_front.ensures.items)
           (i.rest ∙ ap (λ l. c.loop-input.yielded ++ l) c.in-Some.ensures.steps.0)
@@ -38,5 +38,6 @@ loop-input-preserved g c =
           (λ before. (let h = i.refused before in omega (arith, h, one.later)))
           (λ after. (let h = after in omega (arith, h, i.later)))
           (one.refused is);
+      counts = λ none. (one.counts none).1 ∙ i.counts (one.counts none).0;
       later = omega (arith, i.later, one.later);
     }

@@ -1,4 +1,4 @@
-use Rattle.std.proofs.Common.{◌≡◌, ◌≤◌, ◌+◌, ◌++◌, List, true, length, vec_len}
+use Rattle.std.proofs.Common.{◌≡◌, ◌≤◌, ◌+◌, ◌++◌, List, true, false, length, vec_len}
 use Rattle.std.specs.Prelude.{vec_capacity}
 use Rattle.std.specs.Vec.Iter.{into_iter_items}
 use Rattle.zre_outside.specs.Causes.{Rose}
@@ -13,5 +13,6 @@ invariant-loop-input g l = record {
   ins : length l.self.ins.items + l.place ≡ length l.fn.clients.items;
   room : (vec_len l.seated.running ≤ l.place) × (vec_capacity l.seated.running ≡ vec_capacity l.fn.running);
   refused : l.seated.refused ≡ true → Rose (g.P.Spawner.faults l.fn.spawner) (g.P.Spawner.faults l.spawner);
+  counts : l.seated.refused ≡ false → g.P.Spawner.faults l.spawner ≡ g.P.Spawner.faults l.fn.spawner;
   later : g.P.Spawner.faults l.fn.spawner ≤ g.P.Spawner.faults l.spawner;
 }

@@ -39,3 +39,24 @@ returns-in-Last-clause-prints g c = λ first start w p. (
     printed_same first start w c.ask-asker.result a.taker a.self.now (o.written a.out.now) q n.result.0 c.close.new.self (o.written c.close.new.out) t.0
     (λ v os h. c.close.ensures.shows v os (n.ensures.shows v os h))
     (λ is. none_before a.self.now.fault n.new.self.fault n.ensures.stays (none_before n.new.self.fault c.close.new.self.fault (stays_too n.new.self c.close.new.self c.close.ensures.stays) is)))
+
+-- ---- what stays without a fault
+
+pub returns-in-None-clause-calm : goal.returns-in-None-clause-calm
+returns-in-None-clause-calm g c = let n = c.next_told-taker in none_before c.args.self.now.fault n.new.self.fault n.ensures.stays
+
+pub returns-in-Event-clause-calm : goal.returns-in-Event-clause-calm
+returns-in-Event-clause-calm g c = λ none. let n = c.next_told-taker in
+    none_before c.args.self.now.fault n.new.self.fault n.ensures.stays (none_before n.new.self.fault c.print.new.self.fault (stays_too n.new.self c.print.new.self c.print.ensures.stays) none)
+
+pub returns-in-Last-clause-calm : goal.returns-in-Last-clause-calm
+returns-in-Last-clause-calm g c = λ none. let n = c.next_told-taker in
+    none_before c.args.self.now.fault n.new.self.fault n.ensures.stays (none_before n.new.self.fault c.close.new.self.fault (stays_too n.new.self c.close.new.self c.close.ensures.stays) none)
+
+pub returns-in-Event-clause-counts : goal.returns-in-Event-clause-counts
+returns-in-Event-clause-counts g c = λ none. let n = c.next_told-taker in
+    c.print.ensures.counts none ∙ n.ensures.counts (none_before n.new.self.fault c.print.new.self.fault (stays_too n.new.self c.print.new.self c.print.ensures.stays) none)
+
+pub returns-in-Last-clause-counts : goal.returns-in-Last-clause-counts
+returns-in-Last-clause-counts g c = λ none. let n = c.next_told-taker in
+    c.close.ensures.counts none ∙ n.ensures.counts (none_before n.new.self.fault c.close.new.self.fault (stays_too n.new.self c.close.new.self c.close.ensures.stays) none)

@@ -2,7 +2,9 @@ use Rattle.std.proofs.Common.{◌≡◌, ◌+◌, ◌≤◌, take, subst, arith}
 use Rattle.std.proofs.lemmas.List.{length-take, length-take-le}
 use Rattle.zre_outside.specs.Causes.{Rose}
 use Rattle.zre_outside.proofs.Rising.{rose_since}
+use Rattle.zre_outside.proofs.RefusedReads.{none_then}
 use Rattle.zre_console.specs.reader.Turning.{Finishes}
+use Rattle.zre_console.proofs.reader.Refused.{ends_then}
 use Rattle.zre_console.proofs.reader.Reach.{over-now, too-long, finished, ended-turn, memory-first}
 use Rattle.zre_console.proofs.reader.putting.ChatPipes.read_lines.Goals as goal
 
@@ -35,3 +37,15 @@ pub returns-clause-read : goal.returns-clause-read
 returns-clause-read g c =
     let all : c.loop-taken.taken ≡ c.args.limit = omega (arith, c.loop-taken.invariant.within, c.loop-taken-test.false) in
     too-long _ _ _ _ _ _ _ _ c.loop-taken.invariant.reached c.args.limit (Rose (g.I.Source.faults c.args.input.now) (g.I.Source.faults c.loop-taken.input)) all
+
+-- ---- the reads that were refused
+
+pub returns-in-Finish-clause-refused : goal.returns-in-Finish-clause-refused
+returns-in-Finish-clause-refused g c =
+    let none = rw c.in-Finish.is at c.take_turn-read.ensures.refused in
+    c.finish.ensures.unrefused _ _ (none_then _ _ _ c.loop-taken.invariant.refused none)
+
+pub returns-in-End-clause-refused : goal.returns-in-End-clause-refused
+returns-in-End-clause-refused g c =
+    let ends = rw c.in-End.is at c.take_turn-read.ensures.refused in
+    ends_then c.in-End.end _ _ _ c.loop-taken.invariant.refused ends
