@@ -111,12 +111,12 @@ fault_fed f o x out bad h e there =
 
 -- what goes on no more stays as it is
 ended : (f : Follower) (o x out : List ℕ) → Fed f o → GoesOn false f → Fed f (o ++ x) × Grows (follow (peer_of f)) o x out out
-ended f o x out h no =
+ended f o x out h stays =
     elim (cases_Bool (is_spent f.run)) [
       | inl spent ↦ (over_fed f o x spent h, over_grows f o x out spent h)
       | inr running ↦ elim (cases_Option f.fault) [
         | inr there ↦ fault_fed f o x out there.0 h running there.1
-        | inl none ↦ elim no [
+        | inl none ↦ elim stays [
           | inl spent ↦ absurd (true≢false (sym spent ∙ running))
           | inr others ↦ elim others [
             | inl spent ↦ absurd (true≢false (sym spent ∙ (going_reads f o running h (not_stopped f o h running (ap is_some none))).unspent))
@@ -144,9 +144,9 @@ all_taken was now piece (x ∷ rest) out out' o none amid h going = absurd (omeg
 
 -- the rest of a piece isn't examined
 pub rest_left : (was now : Follower) (piece rest out out' o : List ℕ) → GoesOn false now → IsAmid was now piece rest out out' → Fed was o → is_stopped o ≡ false → Fed now (o ++ piece) × Grows (follow (peer_of was)) o piece out out'
-rest_left was now piece rest out out' o no amid h going =
+rest_left was now piece rest out out' o stays amid h going =
     let k = amid.came o h going in
-    all_of was now o amid.front rest piece out out' out' amid.parts amid.same k.1 (ended now (o ++ amid.front) rest out' k.0 no)
+    all_of was now o amid.front rest piece out out' out' amid.parts amid.same k.1 (ended now (o ++ amid.front) rest out' k.0 stays)
 
 -- whether more octets may come
 pub stop_fed : (f : Follower) (o : List ℕ) → Fed f o → (not (is_spent f.run) && is_some f.fault) ≡ is_stopped o

@@ -35,19 +35,19 @@ loop-rest-preserved c =
 
 pub returns-then-not-goes_on-clause-fed : goal.returns-then-not-goes_on-clause-fed
 returns-then-not-goes_on-clause-fed c = λ o h going.
-    let no : GoesOn false c.loop-rest.self = subst (λ b. GoesOn b c.loop-rest.self) c.if-not-goes_on.true c.goes_on.ensures in
-    (rest_left c.args.self.now c.loop-rest.self c.args.piece.now c.loop-rest.rest.now c.args.out.now c.loop-rest.out o no c.loop-rest.invariant h going).0
+    let ended : GoesOn false c.loop-rest.self = subst (λ b. GoesOn b c.loop-rest.self) c.if-not-goes_on.true c.goes_on.ensures in
+    (rest_left c.args.self.now c.loop-rest.self c.args.piece.now c.loop-rest.rest.now c.args.out.now c.loop-rest.out o ended c.loop-rest.invariant h going).0
 
 pub returns-then-not-goes_on-clause-text : goal.returns-then-not-goes_on-clause-text
 returns-then-not-goes_on-clause-text c = λ o h going.
-    let no : GoesOn false c.loop-rest.self = subst (λ b. GoesOn b c.loop-rest.self) c.if-not-goes_on.true c.goes_on.ensures in
-    (rest_left c.args.self.now c.loop-rest.self c.args.piece.now c.loop-rest.rest.now c.args.out.now c.loop-rest.out o no c.loop-rest.invariant h going).1
+    let ended : GoesOn false c.loop-rest.self = subst (λ b. GoesOn b c.loop-rest.self) c.if-not-goes_on.true c.goes_on.ensures in
+    (rest_left c.args.self.now c.loop-rest.self c.args.piece.now c.loop-rest.rest.now c.args.out.now c.loop-rest.out o ended c.loop-rest.invariant h going).1
 
 pub returns-then-not-goes_on-clause-stop : goal.returns-then-not-goes_on-clause-stop
 returns-then-not-goes_on-clause-stop c = λ o h going.
-    let no : GoesOn false c.loop-rest.self = subst (λ b. GoesOn b c.loop-rest.self) c.if-not-goes_on.true c.goes_on.ensures in
-    let k = rest_left c.args.self.now c.loop-rest.self c.args.piece.now c.loop-rest.rest.now c.args.out.now c.loop-rest.out o no c.loop-rest.invariant h going in
-    c.going_after.ensures ∙ ap (λ b. not b && is_some c.loop-rest.self.fault) c.spent-3.ensures ∙ stop_fed c.loop-rest.self (o ++ c.args.piece.now) k.0
+    let ended : GoesOn false c.loop-rest.self = subst (λ b. GoesOn b c.loop-rest.self) c.if-not-goes_on.true c.goes_on.ensures in
+    let k = rest_left c.args.self.now c.loop-rest.self c.args.piece.now c.loop-rest.rest.now c.args.out.now c.loop-rest.out o ended c.loop-rest.invariant h going in
+    c.going_after.ensures ∙ ap (λ b. not b && is_some c.loop-rest.self.fault) c.spent-then-not-goes_on.ensures ∙ stop_fed c.loop-rest.self (o ++ c.args.piece.now) k.0
 
 pub returns-clause-fed : goal.returns-clause-fed
 returns-clause-fed c = λ o h going.
@@ -63,4 +63,4 @@ pub returns-clause-stop : goal.returns-clause-stop
 returns-clause-stop c = λ o h going.
     let none : length c.loop-rest.rest.now ≤ 0 = omega (arith, eqb-true _ _ (sym c.loop-rest-test.ensures)) in
     let k = all_taken c.args.self.now c.loop-rest.self c.args.piece.now c.loop-rest.rest.now c.args.out.now c.loop-rest.out o none c.loop-rest.invariant h going in
-    c.going_after-2.ensures ∙ ap (λ b. not b && is_some c.loop-rest.self.fault) c.spent-4.ensures ∙ stop_fed c.loop-rest.self (o ++ c.args.piece.now) k.0
+    c.going_after-2.ensures ∙ ap (λ b. not b && is_some c.loop-rest.self.fault) c.spent-3.ensures ∙ stop_fed c.loop-rest.self (o ++ c.args.piece.now) k.0
