@@ -40,16 +40,16 @@ use Rattle.zre_journal.specs.Peers.{Life, lives, births, life, life_of, is_enter
 use Rattle.zre_journal.specs.Proper.{IsProper}
 use Rattle.zre_journal.specs.Pushes.{birth, hello}
 use Rattle.zre_journal.specs.Told.{told, told_at, by_message, exit, becoming_evasive}
-use Rattle.zre_journal.proofs.Joined.{after-append, told-append, done-append}
+use Rattle.zre_journal.proofs.JoinedEntries.{after-append, told-append, done-append}
 use Rattle.zre_journal.proofs.Known.{newborn_known}
-use Rattle.zre_journal.proofs.Says.{input_allowed}
-use Rattle.zre_journal.proofs.Silent.{Comes-proper}
-use Rattle.zre_journal.proofs.Steps.{May, Allowed, Each, steps, choice}
+use Rattle.zre_journal.proofs.SaidOnConnections.{input_allowed}
+use Rattle.zre_journal.proofs.ProperPeers.{Comes-proper}
+use Rattle.zre_journal.proofs.WhenMarksCome.{May, Allowed, Each, steps, choice}
 use Rattle.zre_journal.proofs.Telling.{first_is_hello}
-use Rattle.zre_journal.proofs.Listed.{All-join}
+use Rattle.zre_journal.proofs.NumberedLists.{All-join}
 use Rattle.zre_audit.specs.Exchanged.{peer_on}
 use Rattle.zre_audit.specs.Seen.{asked_by, announced_by, is_connect, entered_by, first_entered, born_with}
-use Rattle.zre_audit.proofs.Still.{BearsNone, SaysNone, IsStill, AreStill, still_both, Leaves, leaves_all, SaysAsMuch, says_all, connects_none, still_run, still_opened, still_shut, still_linked, still_unlinked, still_took, still_reply, still_tick, still_stop, still_join, still_leave, still_shaken, still_later}
+use Rattle.zre_audit.proofs.SilentMarks.{BearsNone, SaysNone, IsStill, AreStill, still_both, Leaves, leaves_all, SaysAsMuch, says_all, connects_none, still_run, still_opened, still_shut, still_linked, still_unlinked, still_took, still_reply, still_tick, still_stop, still_join, still_leave, still_shaken, still_later}
 
 -- ---- a connection that has started a run starts no other
 

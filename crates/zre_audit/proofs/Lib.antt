@@ -11,6 +11,6 @@ pub mod Places
 pub mod Pushes
 mod Rows
 pub mod Runs
-pub mod Still
+pub mod SilentMarks
 pub mod Told
 pub mod Watching

@@ -16,10 +16,10 @@ use Rattle.zre_journal.specs.Events.{chronicle}
 use Rattle.zre_journal.specs.Links.{bodies}
 use Rattle.zre_journal.specs.Peers.{Life, lives, life, births}
 use Rattle.zre_journal.specs.Proper.{IsProper, Apart}
-use Rattle.zre_journal.proofs.Always.{always}
-use Rattle.zre_journal.proofs.Listed.{eqb-comm, some_is}
-use Rattle.zre_journal.proofs.Silent.{known_lives}
-use Rattle.zre_journal.proofs.Steps.{May}
+use Rattle.zre_journal.proofs.ProperChronicles.{always}
+use Rattle.zre_journal.proofs.NumberedLists.{eqb-comm, some_is}
+use Rattle.zre_journal.proofs.ProperPeers.{known_lives}
+use Rattle.zre_journal.proofs.WhenMarksCome.{May}
 use Rattle.zre_audit.specs.Coding.{octets_of, code}
 use Rattle.zre_audit.specs.Exchanged.{said, peer_on, links_of, put}
 use Rattle.zre_audit.specs.Kept.{octets_at, with_place, with_place_at, noted, all_noted, risen, lines_with, lines_of, IsLine, ArePut}

@@ -22,13 +22,13 @@ use Rattle.zre_journal.specs.Links.{bodies, line, unsent}
 use Rattle.zre_journal.specs.Peers.{Life, lives, life, life_of, is_entered}
 use Rattle.zre_journal.specs.Proper.{IsProper, Apart}
 use Rattle.zre_journal.specs.Pushes.{push, push_all}
-use Rattle.zre_journal.proofs.Joined.{after-append}
+use Rattle.zre_journal.proofs.JoinedEntries.{after-append}
 use Rattle.zre_journal.proofs.Known.{life_stays, known_of, AreKnown, each_known, still_known}
-use Rattle.zre_journal.proofs.Listed.{All-kept, Apart-kept, eqb-comm, some_is, any_found}
-use Rattle.zre_journal.proofs.Silent.{Comes-proper}
+use Rattle.zre_journal.proofs.NumberedLists.{All-kept, Apart-kept, eqb-comm, some_is, any_found}
+use Rattle.zre_journal.proofs.ProperPeers.{Comes-proper}
 use Rattle.zre_audit.specs.Kept.{reached}
 use Rattle.zre_audit.specs.Seen.{asked_by, whispered_by}
-use Rattle.zre_audit.proofs.Still.{BearsNone, Leaves, leaves_all, put_bodies}
+use Rattle.zre_audit.proofs.SilentMarks.{BearsNone, Leaves, leaves_all, put_bodies}
 
 -- ---- what is put on one link
 

@@ -25,12 +25,12 @@ use Rattle.zre_journal.specs.Peers.{Life, lives, life, births, runner, is_entere
 use Rattle.zre_journal.specs.Told.{told_in, told_at, by_message, exit, becoming_evasive}
 use Rattle.zre_journal.specs.Events.{events, chronicle}
 use Rattle.zre_journal.specs.Proper.{IsProper}
-use Rattle.zre_journal.proofs.Always.{always}
-use Rattle.zre_journal.proofs.Few.{AreNamed, named_more, at_end, AtEnd, Front, Back, another, ids_apart}
-use Rattle.zre_journal.proofs.Silent.{known_lives, run_known, run_is}
+use Rattle.zre_journal.proofs.ProperChronicles.{always}
+use Rattle.zre_journal.proofs.WithinCounts.{AreNamed, named_more, at_end, AtEnd, Front, Back, another, ids_apart}
+use Rattle.zre_journal.proofs.ProperPeers.{known_lives, run_known, run_is}
 use Rattle.zre_journal.proofs.Known.{same_id, life_stays}
-use Rattle.zre_journal.proofs.Listed.{some_is, eqb-comm}
-use Rattle.zre_journal.proofs.Steps.{May, step}
+use Rattle.zre_journal.proofs.NumberedLists.{some_is, eqb-comm}
+use Rattle.zre_journal.proofs.WhenMarksCome.{May, step}
 use Rattle.zre_journal.proofs.Telling.{events_are, first_is_hello}
 use Rattle.zre_audit.specs.Coding.{octets_of, code}
 use Rattle.zre_audit.specs.Exchanged.{is_said, said, bodies_of, peer_on, run_at, runs_of, heard}

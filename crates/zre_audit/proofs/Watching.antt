@@ -10,8 +10,8 @@ use Rattle.zre_journal.specs.Done.{acts_at}
 use Rattle.zre_journal.specs.Events.{chronicle, events, events_at, acts}
 use Rattle.zre_journal.specs.Happens.{with_entry}
 use Rattle.zre_journal.specs.Links.{bodies}
-use Rattle.zre_journal.proofs.Always.{is_proper}
-use Rattle.zre_journal.proofs.Joined.{continues}
+use Rattle.zre_journal.proofs.ProperChronicles.{is_proper}
+use Rattle.zre_journal.proofs.JoinedEntries.{continues}
 use Rattle.zre_node.specs.Asked.{sent_after}
 use Rattle.zre_node.specs.Journal.{IsStep}
 use Rattle.zre_node.specs.declared.effects.Step.{Step}

@@ -80,13 +80,17 @@ impl<R: Net + Clock> Fabric<R> {
     }
 
     pub(crate) fn next(&mut self, command: Option<Command>) -> Result<Turn, NetworkFault>
+        // The turn.
         ensures turn { IfOk result (λ t. IsTurn command t) }
         ensures short { IfOk result (λ t. TurnIsShort t) }
         ensures reading { IfOk result (λ t. IsReadAt self.new.stopwatch.last t) }
+        // The clock never goes back.
         ensures later { self.old.stopwatch.last ≤ self.new.stopwatch.last }
+        // When it must look.
         ensures look { command ≡ None → is_full self.old.row.entries self.old.row.commands ≡ true
             → IfOk result (λ t. is_look t ≡ true) }
         ensures long { command ≡ None → nat_le 65536 self.old.row.octets ≡ true → IfOk result (λ t. is_look t ≡ true) }
+        // What is counted since the last look.
         ensures row { IfOk result (λ t. (self.new.row.entries ≡ entries_after self.old.row.entries t)
             × (self.new.row.commands ≡ commands_after self.old.row.commands command t)) }
         ensures octets { IfOk result (λ t. self.new.row.octets ≡ octets_after self.old.row.octets t) }
@@ -113,10 +117,13 @@ impl<R: Net + Clock> Fabric<R> {
     }
 
     fn obey(&mut self, command: Command) -> Result<Turn, NetworkFault>
+        // The turn.
         ensures turn { IfOk result (λ t. IsTurn (Some command) t) }
         ensures short { IfOk result (λ t. TurnIsShort t) }
         ensures reading { IfOk result (λ t. IsReadAt self.new.stopwatch.last t) }
+        // The clock never goes back.
         ensures later { self.old.stopwatch.last ≤ self.new.stopwatch.last }
+        // What is counted since the last look.
         ensures row { IfOk result (λ t. (self.new.row.entries ≡ entries_after self.old.row.entries t)
             × (self.new.row.commands ≡ commands_after self.old.row.commands (Some command) t)) }
         ensures octets { IfOk result (λ t. self.new.row.octets ≡ octets_after self.old.row.octets t) }
@@ -124,9 +131,9 @@ impl<R: Net + Clock> Fabric<R> {
     {
         let at = match self.stopwatch.read(&self.rt) {
             Ok(at) => at,
-            Err(trouble) => {
+            Err(network_fault) => {
                 drop(command);
-                return Err(trouble);
+                return Err(network_fault);
             }
         };
         if let Some(network) = &mut self.network {
@@ -141,11 +148,15 @@ impl<R: Net + Clock> Fabric<R> {
 
     // A look where one is due, or an entry that is there, or else one that comes within the wait, or else a look.
     fn go_on(&mut self) -> Result<Turn, NetworkFault>
+        // The turn.
         ensures short { IfOk result (λ t. TurnIsShort t) }
         ensures reading { IfOk result (λ t. IsReadAt self.new.stopwatch.last t) }
+        // The clock never goes back.
         ensures later { self.old.stopwatch.last ≤ self.new.stopwatch.last }
+        // When it must look.
         ensures look { is_full self.old.row.entries self.old.row.commands ≡ true → IfOk result (λ t. is_look t ≡ true) }
         ensures long { nat_le 65536 self.old.row.octets ≡ true → IfOk result (λ t. is_look t ≡ true) }
+        // What is counted since the last look.
         ensures row { IfOk result (λ t. (self.new.row.entries ≡ entries_after self.old.row.entries t)
             × (self.new.row.commands ≡ commands_after self.old.row.commands None t)) }
         ensures octets { IfOk result (λ t. self.new.row.octets ≡ octets_after self.old.row.octets t) }

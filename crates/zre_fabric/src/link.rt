@@ -93,9 +93,11 @@ fn progress_of(stream: &TcpStream) -> Connecting {
 impl TcpLink {
     /// A link that is to be dialed from a reading on, once or until it stands.
     pub(crate) fn new(to: Endpoint, at: u64, due: u64, is_once: bool) -> Self
+        // To whom, and how far.
         ensures to { result.to ≡ to }
         ensures stage { result.stage ≡ Stage.Waits due }
         ensures retry { (result.retry.begun ≡ at) × (result.retry.tries ≡ 0) }
+        // What may go out.
         ensures once { result.is_once ≡ is_once }
         ensures offered { result.offered ≡ Offered.Nothing }
     {

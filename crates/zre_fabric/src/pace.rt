@@ -36,9 +36,11 @@ impl Pace {
     /// Whether a Tick is due. It is then given, and the next one is due an interval later: those that were missed
     /// aren't made up for.
     pub(crate) fn tick(&mut self, at: u64) -> bool
+        // When it is due.
         ensures due { result ≡ nat_le self.old.tick_at at }
         ensures tick { self.new.tick_at
             ≡ (if result then tick_after self.old.interval self.old.tick_at at else self.old.tick_at) }
+        // The next one.
         ensures next { at < 2 ^ 64 - 1 → at < self.new.tick_at }
         ensures same { (self.new.interval ≡ self.old.interval) × (self.new.look_at ≡ self.old.look_at) }
     {

@@ -73,10 +73,10 @@ impl PolledSockets {
         let (poll, events) = new_poll(rt, alloc)?;
         let sockets = match Sockets::open(rt, alloc, s, prepared.mailbox.take()) {
             Ok(sockets) => sockets,
-            Err(trouble) => {
+            Err(network_fault) => {
                 drop(poll);
                 drop(events);
-                return Err(trouble);
+                return Err(network_fault);
             }
         };
         let mut network = PolledSockets {
@@ -88,9 +88,9 @@ impl PolledSockets {
         };
         match network.watch_all(&mut prepared.bell) {
             Ok(()) => Ok(network),
-            Err(trouble) => {
+            Err(network_fault) => {
                 drop(network);
-                Err(trouble)
+                Err(network_fault)
             }
         }
     }

@@ -37,6 +37,7 @@ impl<R> RealWorld<R> {
 
     /// A world that isn't started yet. It takes no memory and opens nothing.
     pub fn new(rt: R, alloc: Global) -> Self
+        // Nothing came about yet.
         ensures looked { has_looked result ≡ false }
         ensures faults { faults_of result ≡ 0 }
         ensures clock { reading_of result ≡ 0 }
@@ -46,8 +47,9 @@ impl<R> RealWorld<R> {
         RealWorld::with_bell(rt, alloc, None)
     }
 
-    /// The same with a bell: a look is due at once where it is rung.
+    /// A world with a bell: a look is due at once where it is rung.
     pub fn with_bell(rt: R, alloc: Global, bell: Option<Bell>) -> Self
+        // Nothing came about yet.
         ensures looked { has_looked result ≡ false }
         ensures faults { faults_of result ≡ 0 }
         ensures clock { reading_of result ≡ 0 }
@@ -70,25 +72,30 @@ impl<R> RealWorld<R> {
     }
 
     // A call ended early.
-    fn note(&mut self, trouble: NetworkFault) -> NextFault
-        ensures fault { result ≡ fault_of trouble }
+    fn note(&mut self, network_fault: NetworkFault) -> NextFault
+        // What the fault is told as.
+        ensures fault { result ≡ fault_of network_fault }
+        // Which counts rise.
         ensures later { faults_of self.old ≤ faults_of self.new }
         ensures failed { result ≡ NextFault.Failed → Rose (faults_of self.old) (faults_of self.new) }
         ensures other { result ≡ NextFault.OutOfMemory → faults_of self.new ≡ faults_of self.old }
         ensures one { result ≡ NextFault.Failed → faults_of self.new ≡ raised (faults_of self.old) }
+        // The reason.
         ensures reason { result ≡ NextFault.Failed → IsSome (reason_of self.new) }
         ensures same { (self.new.fabric ≡ self.old.fabric) × (self.new.looked ≡ self.old.looked) }
     {
-        let fault = trouble.fault();
+        let fault = network_fault.fault();
         self.faults = raise(self.faults, fault);
-        self.reason = trouble.reason();
+        self.reason = network_fault.reason();
         fault
     }
 }
 
 // One more fault, where the outside failed and not with OutOfMemory.
 fn raise(faults: u64, fault: NextFault) -> u64
+    // No count falls.
     ensures later { faults ≤ result }
+    // The count of this fault rises by one, the others stay.
     ensures failed { fault ≡ NextFault.Failed → Rose faults result }
     ensures other { fault ≡ NextFault.OutOfMemory → result ≡ faults }
     ensures one { fault ≡ NextFault.Failed → result ≡ raised faults }
@@ -105,6 +112,7 @@ impl<R: Net> RealWorld<R> {
     /// Listens from now on at the address and the port of the mailbox that the world is to be started with. Where that
     /// can't be done nothing is said: the start tries again, and fails where it still can't.
     pub fn reserve(&mut self, at: Endpoint)
+        // What stays as it was.
         ensures looked { has_looked self.new ≡ has_looked self.old }
         ensures faults { faults_of self.new ≡ faults_of self.old }
         ensures reason { reason_of self.new ≡ reason_of self.old }
@@ -141,7 +149,7 @@ impl<R: Net + Clock> World for RealWorld<R> {
     {
         match self.fabric.start(s) {
             Ok(()) => Ok(()),
-            Err(trouble) => Err(self.note(trouble)),
+            Err(network_fault) => Err(self.note(network_fault)),
         }
     }
 
@@ -178,15 +186,17 @@ impl<R: Net + Clock> World for RealWorld<R> {
                 self.looked = matches!(turn, Turn::Look);
                 Ok(turn)
             }
-            Err(trouble) => Err(self.note(trouble)),
+            Err(network_fault) => Err(self.note(network_fault)),
         }
     }
 
     /// Begins what the act asks for, and waits for nothing. An act on a link or connection that is gone does nothing.
     fn act(&mut self, act: &Act) -> Result<(), OutOfMemory>
+        // What is done.
         ensures ok { OnOk result (told_of self.new ≡ option_map (with_deed (DeedValue.Done act.now))
             (told_of self.old)) }
         ensures err { OnErr result (told_of self.new ≡ told_of self.old) }
+        // What stays as it was.
         ensures looked { has_looked self.new ≡ has_looked self.old }
         ensures faults { faults_of self.new ≡ faults_of self.old }
         ensures row { Waits self.old self.new }
@@ -195,9 +205,11 @@ impl<R: Net + Clock> World for RealWorld<R> {
     }
 
     fn offer(&mut self, link: u64, bytes: &[u8]) -> Result<(), OutOfMemory>
+        // What is done.
         ensures ok { OnOk result (told_of self.new ≡ option_map (with_deed (DeedValue.Offered link bytes.now))
             (told_of self.old)) }
         ensures err { OnErr result (told_of self.new ≡ told_of self.old) }
+        // What stays as it was.
         ensures looked { has_looked self.new ≡ has_looked self.old }
         ensures faults { faults_of self.new ≡ faults_of self.old }
         ensures row { Waits self.old self.new }

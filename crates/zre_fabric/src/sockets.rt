@@ -80,9 +80,9 @@ impl Sockets {
     ) -> Result<Self, NetworkFault> {
         let beacons = match BeaconSocket::open(rt, alloc, s) {
             Ok(beacons) => beacons,
-            Err(trouble) => {
+            Err(network_fault) => {
                 drop(reserved);
-                return Err(trouble);
+                return Err(network_fault);
             }
         };
         let listens_at = Endpoint {
@@ -196,9 +196,9 @@ impl Sockets {
         match self.step(source, registry)? {
             Polled::More(input) => match self.keep(source, octets_of(&input)) {
                 Ok(()) => Ok(Some(input)),
-                Err(trouble) => {
+                Err(network_fault) => {
                     drop(input);
-                    Err(trouble)
+                    Err(network_fault)
                 }
             },
             Polled::Last(input) => {

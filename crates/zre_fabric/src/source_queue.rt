@@ -67,12 +67,14 @@ impl SourceQueue {
 
     /// The next source in turn: the front one of its queue.
     pub(crate) fn pop(&mut self) -> Option<EntrySource>
+        // Which source is next.
         ensures light { is_lights self.old ≡ true
             → (self.old.light.items ≡ option_to_list result ++ self.new.light.items)
             × (self.new.heavy ≡ self.old.heavy) }
         ensures heavy { is_lights self.old ≡ false
             → (self.old.heavy.items ≡ option_to_list result ++ self.new.heavy.items)
             × (self.new.light ≡ self.old.light) }
+        // What is left.
         ensures some { is_some result ≡ (has_some self.old.light.items || has_some self.old.heavy.items) }
         ensures row { self.new.turns.row ≡ row_after self.old }
     {

@@ -33,11 +33,11 @@ use Rattle.zre_journal.proofs.Identities.{is_introduced}
 use Rattle.zre_journal.proofs.Keeping.{keeps}
 use Rattle.zre_journal.proofs.Lawful.{IsTold, none_told, told_more}
 use Rattle.zre_journal.proofs.Ledgers.{front_picked}
-use Rattle.zre_journal.proofs.Listed.{any_has}
+use Rattle.zre_journal.proofs.NumberedLists.{any_has}
 use Rattle.zre_journal.proofs.Moments.{at_moments, each_grows, still_opened, still_identified}
 use Rattle.zre_journal.proofs.Passing.{ArePassed, passed_more, none_passed}
-use Rattle.zre_journal.proofs.Silent.{has_started, run_is}
-use Rattle.zre_journal.proofs.Truly.{spoke_truly, are_readable}
+use Rattle.zre_journal.proofs.ProperPeers.{has_started, run_is}
+use Rattle.zre_journal.proofs.SaidOnLinks.{spoke_truly, are_readable}
 use Rattle.zre_journal.proofs.Windows.{keeps_ledgers}
 use Rattle.zre_net.specs.declared.moves.Part.{Part}
 use Rattle.zre_net.specs.declared.moves.Part.TheVariants as part

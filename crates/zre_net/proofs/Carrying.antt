@@ -15,8 +15,8 @@ use Rattle.zre_journal.specs.Config.{CanBe}
 use Rattle.zre_values.specs.Settings.{is_valid}
 use Rattle.zre_journal.specs.Events.{chronicle}
 use Rattle.zre_journal.specs.Heard.{bytes, was_opened, piece_of}
-use Rattle.zre_journal.proofs.Quiet.{is_of}
-use Rattle.zre_journal.proofs.Listed.{All-join}
+use Rattle.zre_journal.proofs.HeardUnchanged.{is_of}
+use Rattle.zre_journal.proofs.NumberedLists.{All-join}
 use Rattle.zre_net.specs.declared.moves.Move.{Move}
 use Rattle.zre_net.specs.declared.moves.Move.TheVariants as move
 use Rattle.zre_net.specs.declared.moves.Part.{Part}
@@ -28,7 +28,7 @@ use Rattle.zre_net.specs.Grammar.{can_carry}
 use Rattle.zre_net.specs.History.{Incarnation, NodeTurn, Happening, Happens, IsKnown, incarnations, running, journal, chronicle_of, settings_of}
 use Rattle.zre_net.specs.Lists.{nth}
 use Rattle.zre_net.specs.Numbers.{Route, CarriedConn, acts_of, route_in, routes, conns, queued_on}
-use Rattle.zre_net.proofs.Grows.{links_grow}
+use Rattle.zre_net.proofs.LinksGrow.{links_grow}
 use Rattle.zre_net.proofs.Journals.{length-last, same_who, other_journal, chronicle_now, other_chronicle}
 use Rattle.zre_net.proofs.Listing.{some_one, nth_more, nth_cases, all_map, past_all}
 use Rattle.zre_net.proofs.Opened.{IsOld, bytes_now, still_old, opened_now, opened_same}

@@ -5,7 +5,7 @@ use Rattle.zre_outside.specs.declared.entry.Input.{Input}
 use Rattle.zre_journal.specs.Chronicle.{Mark}
 use Rattle.zre_journal.specs.Heard.{bytes, piece_of}
 use Rattle.zre_net.specs.declared.moves.Move.{Move}
-use Rattle.zre_net.specs.declared.running.ear.Ear.{Ear}
+use Rattle.zre_net.specs.declared.running.read_side.ReadSide.{ReadSide}
 use Rattle.zre_net.specs.declared.running.network.Network.{Network}
 use Rattle.zre_net.specs.declared.running.rows.Carrier.{Carrier}
 use Rattle.zre_net.specs.Carried.{pending}
@@ -41,9 +41,9 @@ module _ (H : List Happening) (m : Move) (still : IsStill m) (a : Incarnation) (
       by true z = subst (λ c. P c (chronicle_of c N)) (same_who H a b a_known k (sym (eqb-true b.number a.number z))) p
       by false z = subst (λ K. P b K) (sym (other_chronicle H m a at i b z)) (f b)
 
-  pub fits_other : (x : ℕ) (ear : Ear) → piece_of x i ≡ [] → (b : Incarnation) → IsKnown H b → Fits b.settings x (chronicle_of b H) ear → Fits b.settings x (chronicle_of b N) ear
-  fits_other x ear p b k = for_all (λ c K. Fits c.settings x (chronicle_of c H) ear → Fits c.settings x K ear)
-      (λ f. subst (λ K. Fits a.settings x K ear) (sym (chronicle_now H m a at i)) (fits_still a.settings (journal a H) T.entry x ear p f)) (λ c f. f) b k
+  pub fits_other : (x : ℕ) (read_side : ReadSide) → piece_of x i ≡ [] → (b : Incarnation) → IsKnown H b → Fits b.settings x (chronicle_of b H) read_side → Fits b.settings x (chronicle_of b N) read_side
+  fits_other x read_side p b k = for_all (λ c K. Fits c.settings x (chronicle_of c H) read_side → Fits c.settings x K read_side)
+      (λ f. subst (λ K. Fits a.settings x K read_side) (sym (chronicle_now H m a at i)) (fits_still a.settings (journal a H) T.entry x read_side p f)) (λ c f. f) b k
 
   pub silent_more : (x : ℕ) → piece_of x i ≡ [] → ((b : Incarnation) → IsKnown H b → bytes x (chronicle_of b H) ≡ []) → (b : Incarnation) → IsKnown N b → bytes x (chronicle_of b N) ≡ []
   silent_more x p s b k =
@@ -52,7 +52,7 @@ module _ (H : List Happening) (m : Move) (still : IsStill m) (a : Incarnation) (
 
   -- a connection to which nothing comes
   pub conn_still : (x : ℕ) (c : CarriedConn) (xs ys : List Carrier) → ((y : Carrier) → nth x xs ≡ Some y → nth x ys ≡ Some y) → piece_of c.number i ≡ [] → pending c.number N ≡ pending c.number H → HasConn H x c xs → HasConn N x c ys
-  conn_still x c xs ys t p w h = conn_stays H N known_later x c xs ys t (sym w) (λ y k f. fits_other c.number y.ear p c.to k f) h
+  conn_still x c xs ys t p w h = conn_stays H N known_later x c xs ys t (sym w) (λ y k f. fits_other c.number y.read_side p c.to k f) h
 
   pub conns_more : IsKept m → IsSilent i → (ys : List Carrier) → AreConns H ys → AreConns N ys
   conns_more kept quiet ys s = record {

@@ -12,7 +12,7 @@ use Rattle.zre_net.specs.History.{NodeTurn, Happening, Happens}
 use Rattle.zre_net.specs.Running.{AreConns, StandsAfter, IsTaken, HasRun}
 use Rattle.zre_net.specs.Said.{said, said_at, said_in, told_by, IsRest}
 use Rattle.zre_net.proofs.Opening.{same_fields}
-use Rattle.zre_net.proofs.Rests.{rest_told, rest_out}
+use Rattle.zre_net.proofs.LeftToTell.{rest_told, rest_out}
 use Rattle.zre_net.proofs.Runs.{history_more, bad_at}
 
 -- ---- one move more

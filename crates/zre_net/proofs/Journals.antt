@@ -5,7 +5,7 @@ use Rattle.zre_outside.specs.declared.entry.Input.{Input}
 use Rattle.zre_journal.specs.Chronicle.{followed}
 use Rattle.zre_journal.specs.Events.{chronicle}
 use Rattle.zre_journal.specs.Happens.{with_entry}
-use Rattle.zre_journal.proofs.Joined.{continues}
+use Rattle.zre_journal.proofs.JoinedEntries.{continues}
 use Rattle.zre_net.specs.declared.moves.Move.{Move}
 use Rattle.zre_net.specs.declared.moves.Move.TheVariants as move
 use Rattle.zre_net.specs.Comes.{turn_of}

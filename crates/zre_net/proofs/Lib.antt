@@ -1,23 +1,23 @@
 pub mod Agreed
 mod Agreeing
-mod Alive
+mod RunningNodes
 mod Asked
-mod Begins
+mod FirstNetwork
 mod Carrying
 mod Computed
 mod Connecting
-mod Cut
+mod OnePiece
 mod Cutting
-mod Ears
-mod Fate
+mod ReadSides
+mod LinkPerEntry
 pub mod Fielded
-mod Grows
+mod LinksGrow
 pub mod Handing
 mod Hearing
 mod Journals
 mod Lines
 mod Listing
-pub mod Long
+pub mod TooLongText
 mod Looking
 mod Moving
 mod Opened
@@ -27,13 +27,13 @@ mod Piecing
 mod Plays
 mod Putting
 mod Quiet
-mod Rests
-mod Rooms
+mod LeftToTell
+mod CountedOctets
 pub mod Runs
-mod Same
+mod SameMarksWhenCut
 mod Sending
 pub mod Sent
-mod Short
+mod FewMessages
 mod Starting
 mod Staying
 mod Stepping

@@ -17,13 +17,13 @@ use Rattle.zre_journal.specs.Events.{chronicle}
 use Rattle.zre_journal.specs.Happens.{has_stopped, at_input, with_entry}
 use Rattle.zre_journal.specs.Heard.{bytes, was_opened, piece_of}
 use Rattle.zre_journal.specs.Proper.{IsProper}
-use Rattle.zre_journal.proofs.Always.{is_proper}
+use Rattle.zre_journal.proofs.ProperChronicles.{is_proper}
 use Rattle.zre_journal.proofs.Cutting.{AreInner, inner_of, inner_bytes}
-use Rattle.zre_journal.proofs.Going.{are_others}
-use Rattle.zre_journal.proofs.Says.{input_sound, input_allowed, input_quiet}
-use Rattle.zre_journal.proofs.Silent.{Comes-proper}
-use Rattle.zre_journal.proofs.Steps.{May, Allowed, all_same}
-use Rattle.zre_journal.proofs.Quiet.{Quiet, is_of}
+use Rattle.zre_journal.proofs.MarkByMark.{are_others}
+use Rattle.zre_journal.proofs.SaidOnConnections.{input_sound, input_allowed, input_quiet}
+use Rattle.zre_journal.proofs.ProperPeers.{Comes-proper}
+use Rattle.zre_journal.proofs.WhenMarksCome.{May, Allowed, all_same}
+use Rattle.zre_journal.proofs.HeardUnchanged.{Quiet, is_of}
 
 -- ---- no mark of an entry is an entry
 

@@ -39,7 +39,7 @@ module _ (H : List Happening) (g n at : ℕ) (net new : Network) (s : StandsAfte
   opened : conns N ≡ conns H ++ c ∷ []
   opened = ap (λ o. followed (conns H) (conn_of (length (conns H) + 1) o (running_in n H))) route ∙ ap (λ o. followed (conns H) (conn_of (length (conns H) + 1) (Some r) o)) runs
 
-  module _ (nodes : AreNodes N new) (y : Carrier) (to : y.to ≡ a.number) (along : y.along ≡ way_of r) (waiting : y.waiting ≡ []) (ear : y.ear.conn ≡ conn_after a.settings.id []) (rows : new.conns.items ≡ net.conns.items ++ y ∷ []) (pending_stay : new.pending ≡ net.pending) where
+  module _ (nodes : AreNodes N new) (y : Carrier) (to : y.to ≡ a.number) (along : y.along ≡ way_of r) (waiting : y.waiting ≡ []) (read_side : y.read_side.conn ≡ conn_after a.settings.id []) (rows : new.conns.items ≡ net.conns.items ++ y ∷ []) (pending_stay : new.pending ≡ net.pending) where
     new_conn : IsConn N c y
     new_conn = record {
       to = to;
@@ -47,8 +47,8 @@ module _ (H : List Happening) (g n at : ℕ) (net new : Network) (s : StandsAfte
       along = along;
       along_known = known_later H (move.Open g n at) (still (move.Open g n at) tt) a at (input.Opened x) known r.from r_known;
       waits = waiting ∙ sym (no_pending (length (conns H) + 1) H (omega arith));
-      fits = subst (λ K. Fits a.settings (length (conns H) + 1) K y.ear) (sym (chronicle_now H (move.Open g n at) a at (input.Opened x)))
-          (fits_new a.settings (journal a H) (turn_of a at (input.Opened x)).entry (length (conns H) + 1) y.ear (ap (λ k. input.Opened k) next) (s.conns_are.silent a known (length (conns H) + 1) (omega arith)) ear);
+      fits = subst (λ K. Fits a.settings (length (conns H) + 1) K y.read_side) (sym (chronicle_now H (move.Open g n at) a at (input.Opened x)))
+          (fits_new a.settings (journal a H) (turn_of a at (input.Opened x)).entry (length (conns H) + 1) y.read_side (ap (λ k. input.Opened k) next) (s.conns_are.silent a known (length (conns H) + 1) (omega arith)) read_side);
     }
 
     each : (k : ℕ) (d : CarriedConn) → nth k (conns N) ≡ Some d → HasConn N k d new.conns.items
@@ -96,14 +96,14 @@ same_fields H net mid said started running owners beacons links queued n = recor
 }
 
 pub opens_played : (H : List Happening) (net new : Network) (mid : List Carrier) (s : StandsAfter H net) (g n at k num : ℕ) (w : Way) (x : Started) (y : Carrier) → Some k ≡ running_at n net.running.items → Some w ≡ nth g net.links → Some x ≡ nth k net.started.items
-    → y.to ≡ k → y.along ≡ w → y.waiting ≡ [] → y.ear.conn ≡ conn_after x.id [] → mid ≡ net.conns.items ++ y ∷ [] → num ≡ length mid
+    → y.to ≡ k → y.along ≡ w → y.waiting ≡ [] → y.read_side.conn ≡ conn_after x.id [] → mid ≡ net.conns.items ++ y ∷ [] → num ≡ length mid
     → ((a : Incarnation) → nth k (incarnations H) ≡ Some a → AreNodes (Happens (move.Open g n at) (Some (turn_of a at (input.Opened num))) ∷ H) new) → new.conns.items ≡ mid → new.pending ≡ net.pending → IsPlayed (move.Open g n at) H true new
-opens_played H net new mid s g n at k num w x y e l t to along waiting ear rows count f conns_stay pending_stay =
+opens_played H net new mid s g n at k num w x y e l t to along waiting read_side rows count f conns_stay pending_stay =
     played (move.Open g n at) H new (ap (λ o. is_some o && is_some (nth g (routes H))) r.is ∙ ap (λ o. is_some o) q.there)
     (subst (λ u. StandsAfter (Happens (move.Open g n at) u ∷ H) new) (sym brings)
     (open_stands H g n at net new s r.who q.route r.known r.is q.there q.known (length (conns H) + 1) refl
     (subst (λ j. AreNodes (Happens (move.Open g n at) (Some (turn_of r.who at (input.Opened j))) ∷ H) new) next (f r.who r.there))
-    y (to ∙ r.number) (along ∙ q.is) waiting (ear ∙ ap (λ i. conn_after i []) its_id) (conns_stay ∙ rows) pending_stay))
+    y (to ∙ r.number) (along ∙ q.is) waiting (read_side ∙ ap (λ i. conn_after i []) its_id) (conns_stay ∙ rows) pending_stay))
   where
     r : Runs H n k (running_in n H)
     r = runs_there H net n k s e

@@ -18,11 +18,11 @@ use Rattle.zre_journal.specs.Done.{acts_at}
 use Rattle.zre_journal.specs.Events.{chronicle, events_at}
 use Rattle.zre_journal.specs.Happens.{has_stopped, is_stop, with_entry}
 use Rattle.zre_journal.specs.Heard.{bytes, was_opened, opens, piece_of}
-use Rattle.zre_journal.proofs.Alike.{through, ever_but}
+use Rattle.zre_journal.proofs.WithoutEntryMarks.{through, ever_but}
 use Rattle.zre_journal.proofs.Cutting.{same_cut, events_twice, acts_twice}
-use Rattle.zre_journal.proofs.Joined.{continues}
+use Rattle.zre_journal.proofs.JoinedEntries.{continues}
 use Rattle.zre_net.specs.declared.moves.Move.TheVariants as move
-use Rattle.zre_net.specs.declared.running.ear.Ear.{Ear}
+use Rattle.zre_net.specs.declared.running.read_side.ReadSide.{ReadSide}
 use Rattle.zre_net.specs.declared.running.network.Network.{Network}
 use Rattle.zre_net.specs.declared.running.rows.Carrier.{Carrier}
 use Rattle.zre_net.specs.Carried.{pending}
@@ -37,11 +37,11 @@ use Rattle.zre_net.specs.Said.{said_in, IsRest}
 use Rattle.zre_net.specs.Sender.{is_slight}
 use Rattle.zre_net.specs.Sending.{HasSent}
 use Rattle.zre_net.proofs.Connecting.{known_later, conn_still, silent_more}
-use Rattle.zre_net.proofs.Cut.{has_sent_whole}
+use Rattle.zre_net.proofs.OnePiece.{has_sent_whole}
 use Rattle.zre_net.proofs.Hearing.{fits_piece, completes_few}
 use Rattle.zre_net.proofs.Listing.{some_one, nth_at, set_length, sum_set, all_map, past_all}
 use Rattle.zre_net.proofs.Plays.{still, played, not_received, received}
-use Rattle.zre_net.proofs.Same.{new_but, sim, Sim}
+use Rattle.zre_net.proofs.SameMarksWhenCut.{new_but, sim, Sim}
 use Rattle.zre_net.proofs.Journals.{chronicle_now, same_who}
 use Rattle.zre_net.proofs.Staying.{rows_set, start_stays, conn_stays, finds_stays}
 
@@ -60,14 +60,14 @@ module _ (H : List Happening) (x place most at : ℕ) (net : Network) (s : Stand
   abbrev N : List Happening
   N = Happens (move.Piece x (length b) at) (Some T) ∷ H
 
-  fit : Fits c.to.settings x (chronicle_of c.to H) was.ear
-  fit = subst (λ k. Fits c.to.settings k (chronicle_of c.to H) was.ear) its.number is.fits
+  fit : Fits c.to.settings x (chronicle_of c.to H) was.read_side
+  fit = subst (λ k. Fits c.to.settings k (chronicle_of c.to H) was.read_side) its.number is.fits
 
   waits : was.waiting ≡ pending x H
   waits = is.waits ∙ ap (λ k. pending k H) its.number
 
   pub slight_now : is_slight c.to.settings (input.Piece x b) (chronicle_of c.to H) (Comes T.entry ∷ chronicle_of c.to H)
-  slight_now = completes_few c.to.settings x (chronicle_of c.to H) T.entry b was.ear refl fit (λ o e. (heard.ear c.to.settings.id o e).0)
+  slight_now = completes_few c.to.settings x (chronicle_of c.to H) T.entry b was.read_side refl fit (λ o e. (heard.read_side c.to.settings.id o e).0)
 
   pub next_octets : b ≡ take (length b) (pending x H)
   next_octets = heard.next ∙ ap (take (length b)) waits
@@ -95,8 +95,8 @@ module _ (H : List Happening) (x place most at : ℕ) (net : Network) (s : Stand
           along = heard.along ∙ is.along;
           along_known = known_later H (move.Piece x (length b) at) (still (move.Piece x (length b) at) tt) c.to at (input.Piece x b) is.to_known c.along.from is.along_known;
           waits = heard.waiting ∙ ap (drop (length b)) is.waits ∙ sym (ap (λ t. cond t (drop (length b) (pending c.number H)) (pending c.number H)) (eq-eqb c.number x its.number));
-          fits = subst (λ K. Fits c.to.settings c.number K now.ear) (sym (chronicle_now H (move.Piece x (length b) at) c.to at (input.Piece x b)))
-              (fits_piece c.to.settings (journal c.to H) T.entry c.number b was.ear now.ear (ap (λ k. input.Piece k b) (sym its.number)) (λ o e. (heard.ear c.to.settings.id o e).1) is.fits);
+          fits = subst (λ K. Fits c.to.settings c.number K now.read_side) (sym (chronicle_now H (move.Piece x (length b) at) c.to at (input.Piece x b)))
+              (fits_piece c.to.settings (journal c.to H) T.entry c.number b was.read_side now.read_side (ap (λ k. input.Piece k b) (sym its.number)) (λ o e. (heard.read_side c.to.settings.id o e).1) is.fits);
         }
 
     piece_stands : StandsAfter N new
@@ -205,8 +205,8 @@ module _ (H : List Happening) (x i j at : ℕ) (w : Incarnation) (known : IsKnow
           subst (λ u. Q u (journal u W)) same (subst (λ Z. Q w Z) (sym journal_whole) (f (subst (λ Z. P w Z) journal_two (subst (λ u. P u (journal u H2)) (sym same) p))))
       by false z = k v (journal v W) (subst (λ Z. P v Z) (other_two v z) p)
 
-  fits_whole : (y : ℕ) (ear : Ear) → Fits G y (chronicle G (I ++ piece t x a ∷ piece t x b ∷ [])) ear → Fits G y (chronicle G (I ++ piece t x (a ++ b) ∷ [])) ear
-  fits_whole y ear f = record {
+  fits_whole : (y : ℕ) (read_side : ReadSide) → Fits G y (chronicle G (I ++ piece t x a ∷ piece t x b ∷ [])) read_side → Fits G y (chronicle G (I ++ piece t x (a ++ b) ∷ [])) read_side
+  fits_whole y read_side f = record {
     heard = λ o. f.heard (through (was_opened y) (ever_but (opens y) (λ e. refl)) A B s.alike ∙ o) ∙ ap (λ o. conn_after G.id o) ((same_cut G I t x a b).octets_are y);
     old = subst (λ n. (n ≡ false) ⊎ (has_stopped B ≡ true)) (through (is_new y) (new_but y) A B s.alike) (subst (λ n. (is_new y A ≡ false) ⊎ (n ≡ true)) (through has_stopped (ever_but is_stop (λ e. refl)) A B s.alike) f.old);
   }
@@ -277,7 +277,7 @@ module _ (H : List Happening) (x i j at : ℕ) (w : Incarnation) (known : IsKnow
       where
         one_conn : (y : ℕ) (d : CarriedConn) → HasConn H2 y d net.conns.items → HasConn W y d net.conns.items
         one_conn y d h = conn_stays H2 W (λ u q. q) y d net.conns.items net.conns.items (λ r t. t) (pending_same d.number)
-            (λ r k q. for_all (λ u Z. Fits u.settings d.number (chronicle u.settings Z) r.ear) (λ u Z. Fits u.settings d.number (chronicle u.settings Z) r.ear) (fits_whole d.number r.ear) (λ u Z p. p) d.to k q) h
+            (λ r k q. for_all (λ u Z. Fits u.settings d.number (chronicle u.settings Z) r.read_side) (λ u Z. Fits u.settings d.number (chronicle u.settings Z) r.read_side) (fits_whole d.number r.read_side) (λ u Z p. p) d.to k q) h
 
         silent : (v : Incarnation) → IsKnown W v → (y : ℕ) → length (conns W) < y → bytes y (chronicle_of v W) ≡ []
         silent v l y z = for_all (λ u Z. bytes y (chronicle u.settings Z) ≡ []) (λ u Z. bytes y (chronicle u.settings Z) ≡ []) (λ q. sym ((same_cut G I t x a b).octets_are y) ∙ q) (λ u Z q. q) v l (st.conns_are.silent v l y z)

@@ -18,7 +18,7 @@ use Rattle.zre_net.specs.Numbers.{Broadcast, Route, CarriedConn, broadcasts, rou
 use Rattle.zre_net.specs.Rows.{running_at, is_at, same_number}
 use Rattle.zre_net.specs.Running.{Finds, AreNodes, HasStarted, IsConn, StandsAfter, IsStill, IsKept, IsPlayed, Names, Receives, Sends, sent_of, way_of}
 use Rattle.zre_net.proofs.Listing.{some_one, nth_map, nth_reach, nth_first, nth_there, all_at}
-use Rattle.zre_journal.proofs.Listed.{eqb-comm}
+use Rattle.zre_journal.proofs.NumberedLists.{eqb-comm}
 
 -- ---- moves that start and end no node, and that do nothing with connections
 

@@ -15,16 +15,16 @@ use Rattle.zre_journal.specs.Happens.{has_stopped, at_input, with_entry}
 use Rattle.zre_journal.specs.Links.{line, bodies, queued, text, taken, unsent}
 use Rattle.zre_journal.specs.Peers.{Life, lives, life}
 use Rattle.zre_journal.specs.Proper.{IsProper}
-use Rattle.zre_journal.proofs.Always.{is_proper}
-use Rattle.zre_journal.proofs.Joined.{continues}
+use Rattle.zre_journal.proofs.ProperChronicles.{is_proper}
+use Rattle.zre_journal.proofs.JoinedEntries.{continues}
 use Rattle.zre_journal.proofs.Known.{life_stays}
-use Rattle.zre_journal.proofs.Listed.{eqb-comm}
-use Rattle.zre_journal.proofs.Says.{input_allowed}
-use Rattle.zre_journal.proofs.Silent.{Comes-proper}
-use Rattle.zre_journal.proofs.Steps.{May, Allowed, all_same}
-use Rattle.zre_journal.proofs.Truly.{numbered_length}
+use Rattle.zre_journal.proofs.NumberedLists.{eqb-comm}
+use Rattle.zre_journal.proofs.SaidOnConnections.{input_allowed}
+use Rattle.zre_journal.proofs.ProperPeers.{Comes-proper}
+use Rattle.zre_journal.proofs.WhenMarksCome.{May, Allowed, all_same}
+use Rattle.zre_journal.proofs.SaidOnLinks.{numbered_length}
 use Rattle.zre_net.specs.Sender.{spelled, is_slight}
-use Rattle.zre_net.proofs.Fate.{Fate, IsQuiet, GoesOn, pongs, input_fate}
+use Rattle.zre_net.proofs.LinkPerEntry.{Fate, IsQuiet, GoesOn, pongs, input_fate}
 
 -- what an entry put on l: nothing, or these messages at its end, and then it goes on if there are any
 pub data Put (l : ℕ) (H K : List Mark) : Type 0 where

@@ -24,7 +24,7 @@ use Rattle.zre_net.specs.Said.{said_in, IsRest}
 use Rattle.zre_net.specs.Rows.{running_at, with_running, has_node, fits_owner, HasStopped, part_octets, IsSpelledAt, IsLoaded, Fits}
 use Rattle.zre_net.specs.Running.{IsStarted, HasStarted, AreStarted, Finds, AreNodes, IsConn, HasConn, AreConns, StandsAfter, IsPlayed}
 use Rattle.zre_net.proofs.Plays.{played, not_running, runs_there, conn_found, conn_missing, IsFound}
-use Rattle.zre_net.proofs.Alive.{live_kept}
+use Rattle.zre_net.proofs.RunningNodes.{live_kept}
 use Rattle.zre_net.proofs.Listing.{some_one, apart, nth_map, set_length, sum_set, all_map}
 use Rattle.zre_net.proofs.Staying.{rows_set, start_stays, conn_stays, finds_stays}
 
@@ -148,7 +148,7 @@ module _ (H : List Happening) (x place : ℕ) (p : Part) (net new : Network) (s 
         along_known = r.along_known;
         waits = loaded.waiting ∙ ap (λ q. q ++ o) r.waits ∙ ap (λ q. pending d.number H ++ q) (spelled_as ∙ ap (λ (w : CarriedConn). spelling w.along H p) (some_one (sym there ∙ e)) ∙ sym (ap (λ q. option_map_or (λ (w : CarriedConn). spelling w.along H p) q []) (ap (λ j. nth j (conns H)) m ∙ e)))
             ∙ sym (ap (λ b. cond b (pending d.number H ++ appended d.number p H) (pending d.number H)) (eq-eqb d.number x m));
-        fits = subst (λ w. Fits d.to.settings d.number (chronicle_of d.to H) w) (sym loaded.ear) r.fits;
+        fits = subst (λ w. Fits d.to.settings d.number (chronicle_of d.to H) w) (sym loaded.read_side) r.fits;
       }
 
   pub carry_stands : StandsAfter M new

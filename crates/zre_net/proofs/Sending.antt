@@ -20,10 +20,10 @@ use Rattle.zre_journal.specs.Proper.{IsProper}
 use Rattle.zre_values.specs.declared.peer_id.PeerId.{PeerId}
 use Rattle.zre_peer.specs.declared.causes.Cause.{Cause}
 use Rattle.zre_peer.specs.declared.causes.Cause.TheVariants as cause
-use Rattle.zre_journal.proofs.Always.{is_proper}
-use Rattle.zre_journal.proofs.Says.{input_allowed}
-use Rattle.zre_journal.proofs.Silent.{Comes-proper}
-use Rattle.zre_journal.proofs.Steps.{May, Allowed}
+use Rattle.zre_journal.proofs.ProperChronicles.{is_proper}
+use Rattle.zre_journal.proofs.SaidOnConnections.{input_allowed}
+use Rattle.zre_journal.proofs.ProperPeers.{Comes-proper}
+use Rattle.zre_journal.proofs.WhenMarksCome.{May, Allowed}
 use Rattle.zre_net.specs.declared.running.lines.Line.{Line}
 use Rattle.zre_net.specs.Lines.{connects, fresh, messages_at, waited_at}
 use Rattle.zre_net.specs.Sender.{spelled, is_slight, Keeps, IsSeen, IsLooked}

@@ -10,7 +10,7 @@ use Rattle.zre_journal.specs.Chronicle.{Comes}
 use Rattle.zre_journal.specs.Done.{acts_at}
 use Rattle.zre_journal.specs.Events.{chronicle, events, acts, events_at}
 use Rattle.zre_journal.specs.Happens.{with_entry}
-use Rattle.zre_journal.proofs.Joined.{continues}
+use Rattle.zre_journal.proofs.JoinedEntries.{continues}
 use Rattle.zre_node.specs.declared.effects.Step.{Step}
 use Rattle.zre_node.specs.declared.node.Node.{Node}
 use Rattle.zre_node.specs.Journal.{StandsFor, IsStep}

@@ -23,10 +23,10 @@ use Rattle.zre_net.specs.declared.running.rows.Owner.{Owner}
 use Rattle.zre_net.specs.Said.{said_in, IsRest}
 use Rattle.zre_net.specs.Running.{IsStarted, HasStarted, Finds, AreNodes, AreConns, StandsAfter}
 use Rattle.zre_net.specs.Sending.{HasSent}
-use Rattle.zre_net.proofs.Alive.{live_more}
+use Rattle.zre_net.proofs.RunningNodes.{live_more}
 use Rattle.zre_net.proofs.Listing.{some_one, nth_more, nth_last, nth_cases, all_map}
 use Rattle.zre_net.proofs.Journals.{length-last, as_many_starts}
-use Rattle.zre_journal.proofs.Listed.{eqb-comm}
+use Rattle.zre_journal.proofs.NumberedLists.{eqb-comm}
 use Rattle.zre_net.proofs.Staying.{start_stays, conn_stays, finds_stays, starting, after_start, known_started, number_is, starting_known}
 
 -- ---- whose IDs the numbers have

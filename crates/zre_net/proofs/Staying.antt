@@ -47,7 +47,7 @@ module _ (H N : List Happening) (later : (b : Incarnation) → IsKnown H b → I
   }
 
   pub conn_stays : (x : ℕ) (c : CarriedConn) (xs ys : List Carrier) → ((y : Carrier) → nth x xs ≡ Some y → nth x ys ≡ Some y) → pending c.number H ≡ pending c.number N
-      → ((y : Carrier) → IsKnown H c.to → Fits c.to.settings c.number (chronicle_of c.to H) y.ear → Fits c.to.settings c.number (chronicle_of c.to N) y.ear) → HasConn H x c xs → HasConn N x c ys
+      → ((y : Carrier) → IsKnown H c.to → Fits c.to.settings c.number (chronicle_of c.to H) y.read_side → Fits c.to.settings c.number (chronicle_of c.to N) y.read_side) → HasConn H x c xs → HasConn N x c ys
   conn_stays x c xs ys t w f h = record {
     number = h.number;
     row = h.row;

@@ -11,7 +11,7 @@ use Rattle.zre_peer.specs.declared.event.Event.{Event}
 use Rattle.zre_values.specs.declared.settings.Settings.{Settings as Config}
 use Rattle.zre_journal.specs.Chronicle.{Comes}
 use Rattle.zre_journal.specs.Events.{chronicle, events_at}
-use Rattle.zre_journal.proofs.Listed.{All-join}
+use Rattle.zre_journal.proofs.NumberedLists.{All-join}
 use Rattle.zre_net.specs.declared.moves.Move.{Move}
 use Rattle.zre_net.specs.declared.running.network.Network.{Network}
 use Rattle.zre_net.specs.declared.running.rows.Started.{Started}
@@ -27,11 +27,11 @@ use Rattle.zre_net.specs.Running.{IsStarted, HasStarted, AreStarted, Finds, AreN
 use Rattle.zre_net.specs.Said.{said_in, said_at}
 use Rattle.zre_net.specs.Sender.{is_slight}
 use Rattle.zre_net.specs.Sending.{HasSent}
-use Rattle.zre_net.proofs.Alive.{live_set}
+use Rattle.zre_net.proofs.RunningNodes.{live_set}
 use Rattle.zre_net.proofs.Listing.{some_one, nth_at, set_length, sum_set, all_map, past_all}
 use Rattle.zre_net.proofs.Journals.{journal_now, other_journal}
 use Rattle.std.proofs.lemmas.List.Elements.{filter_map-append}
-use Rattle.zre_net.proofs.Rests.{rest_same, rest_more}
+use Rattle.zre_net.proofs.LeftToTell.{rest_same, rest_more}
 use Rattle.zre_net.proofs.Staying.{rows_set, start_stays, finds_stays}
 
 -- what one act more brings

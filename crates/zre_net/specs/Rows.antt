@@ -20,7 +20,7 @@ use Rattle.zre_journal.specs.Happens.{has_stopped}
 use Rattle.zre_journal.specs.Heard.{bytes, was_opened}
 use Rattle.zre_net.specs.declared.moves.Part.{Part}
 use Rattle.zre_net.specs.declared.moves.Part.TheVariants as part
-use Rattle.zre_net.specs.declared.running.ear.Ear.{Ear}
+use Rattle.zre_net.specs.declared.running.read_side.ReadSide.{ReadSide}
 use Rattle.zre_net.specs.declared.running.rows.Carrier.{Carrier}
 use Rattle.zre_net.specs.declared.running.rows.Owner.{Owner}
 use Rattle.zre_net.specs.declared.running.rows.SentBeacon.{SentBeacon}
@@ -65,7 +65,8 @@ is_owner n id o = if nat_eq o.node n then bytes_eq o.id.0 id.0 else false
 -- with that owner these belong to the same, whether or not it was one of them before
 abbrev pub Owns : List Owner → ℕ → PeerId → List Owner → Type 0
 Owns before n id now = (k : ℕ) (p : PeerId)
-    → list_all (fits_owner k p) now ≡ (list_all (fits_owner k p) before && fits_owner k p (record { node = n; id = id }))
+    → list_all (fits_owner k p) now
+    ≡ (list_all (fits_owner k p) before && fits_owner k p (record { node = n; id = id }))
 
 -- a node that has started
 pub record IsBegun (n since : ℕ) (g : Config) (x : Started) : Type 0 where
@@ -137,10 +138,10 @@ pub record IsLoaded (x : Carrier) (o : List ℕ) (y : Carrier) : Type 0 where
   pub to : y.to ≡ x.to
   pub along : y.along ≡ x.along
   pub waiting : y.waiting ≡ x.waiting ++ o
-  pub ear : y.ear ≡ x.ear
+  pub read_side : y.read_side ≡ x.read_side
 
--- the ear has heard all octets of connection x of a node, where that was opened; and it is not opened anew
-pub record Fits (g : Config) (x : ℕ) (K : List Mark) (e : Ear) : Type 0 where
+-- the read_side has heard all octets of connection x of a node, where that was opened; and it is not opened anew
+pub record Fits (g : Config) (x : ℕ) (K : List Mark) (e : ReadSide) : Type 0 where
   pub heard : was_opened x K ≡ true → e.conn ≡ conn_after g.id (bytes x K)
   pub old : (is_new x K ≡ false) ⊎ (has_stopped K ≡ true)
 
@@ -151,5 +152,5 @@ pub record IsHeard (x : Carrier) (most : ℕ) (b : List ℕ) (y : Carrier) : Typ
   pub next : b ≡ take (length b) x.waiting
   pub few : length b ≤ most
   pub waiting : y.waiting ≡ drop (length b) x.waiting
-  pub ear : (own : PeerId) (o : List ℕ) → x.ear.conn ≡ conn_after own o →
-      (length (completed own o b) ≤ 1) × (y.ear.conn ≡ conn_after own (o ++ b))
+  pub read_side : (own : PeerId) (o : List ℕ) → x.read_side.conn ≡ conn_after own o →
+      (length (completed own o b) ≤ 1) × (y.read_side.conn ≡ conn_after own (o ++ b))

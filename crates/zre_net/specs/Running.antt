@@ -81,7 +81,7 @@ pub record IsConn (H : List Happening) (c : CarriedConn) (y : Carrier) : Type 0 
   pub along : y.along ≡ way_of c.along
   pub along_known : IsKnown H c.along.from
   pub waits : y.waiting ≡ pending c.number H
-  pub fits : Fits c.to.settings c.number (chronicle_of c.to H) y.ear
+  pub fits : Fits c.to.settings c.number (chronicle_of c.to H) y.read_side
 
 abbrev pub HasConn : List Happening → ℕ → CarriedConn → List Carrier → Type 0
 HasConn H = HasRow (λ (c : CarriedConn). c.number) (IsConn H)

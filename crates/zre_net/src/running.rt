@@ -1,13 +1,13 @@
 //! Schedules run.
 
 mod asked;
-mod ear;
 mod lines;
 mod network;
 mod nth;
 mod pieces;
 mod play;
 mod plays;
+mod read_side;
 mod rows;
 mod said;
 mod schedule;

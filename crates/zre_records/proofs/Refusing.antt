@@ -2,7 +2,7 @@
 use Rattle.std.proofs.Common.{◌≡◌, ℕ, true, is_some, List, ◌++◌}
 use Rattle.zre_capture.specs.Journal.{bad, bad_at_end}
 use Rattle.zre_capture.specs.declared.format.Format.{Format}
-use Rattle.zre_capture.proofs.Staying.{bad_stays}
+use Rattle.zre_capture.proofs.BadStaysBad.{bad_stays}
 use Rattle.zre_commands.specs.pump.Meaning.{KeepsRefusing}
 use Rattle.zre_records.specs.audit.Audit as audits
 use Rattle.zre_records.specs.simulate.Simulate as simulates

@@ -44,8 +44,8 @@ pub record IsSimulated (o : List ℕ) : Type 0 where
 abbrev pub SchedulesAgree : Type 0
 SchedulesAgree = (o : List ℕ) → simulate.is_bad o ≡ false → IsSimulated o
 
--- of two captures that aren't refused, of nodes with these settings, `AUDIT yes` is written exactly where their journals
--- agree
+-- of two captures that aren't refused, of nodes with these settings, `AUDIT yes` is written exactly where their
+-- journals agree
 abbrev pub AuditsSayYes : Type 0
 AuditsSayYes =
     (o : List ℕ) (s t : Settings) → audit.is_bad o ≡ false

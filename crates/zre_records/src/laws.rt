@@ -21,8 +21,8 @@ pub fn schedules_agree()
     ensures { SchedulesAgree }
 {}
 
-/// Of two captures that it doesn't refuse `audit` writes `AUDIT yes` exactly where their journals agree: where what each
-/// node heard in a run of the other is the beginning of what the other put on a link, on another one for each run.
+/// Of two captures that it doesn't refuse `audit` writes `AUDIT yes` exactly where their journals agree: where what
+/// each node heard in a run of the other is the beginning of what the other put on a link, on another one for each run.
 pub fn audits_say_yes_where_journals_agree()
     ensures { AuditsSayYes }
 {}

@@ -14,7 +14,7 @@ use Rattle.zre_capture.specs.Values.{number_of, id_of, group_of}
 use Rattle.zre_capture.proofs.Parts.{between-cut, between-whole}
 use Rattle.zre_capture.proofs.Spelled.{IsTextOf, number_of-decimal, number_of-some, id_of-text, id_of-some, group_of-quoted, group_of-some}
 use Rattle.zre_capture.proofs.Visible.{visible, decimal-visible, id-visible, quoted-visible, fields-joined}
-use Rattle.zre_capture.proofs.Back.{stepped}
+use Rattle.zre_capture.proofs.ReadIsSpelled.{stepped}
 use Rattle.zre_shared.specs.declared.write.Write.{Write}
 use Rattle.zre_shared.specs.declared.write.TheConstants.{KEY_OCTETS, VALUE_OCTETS}
 use Rattle.zre_shared.specs.Writes.{fields, write_text, IsWrite, at_most, short_of, pair_of, said_by, write_in, write_of}

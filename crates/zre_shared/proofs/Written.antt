@@ -1,7 +1,7 @@
 -- Lines of a table that are gathered and written, one after the other.
 use Rattle.std.proofs.Common.{◌≡◌, ℕ, List, [], ◌∷◌, ◌++◌, Option, sym, ap, ◌∙◌, subst, append_assoc, append-nil}
 use Rattle.zre_outside.specs.Told.{AppendsFront, WritesThrough}
-use Rattle.zre_outside.proofs.Through.{through_none, through_then, through_front, front_longer}
+use Rattle.zre_outside.proofs.GatheredText.{through_none, through_then, through_front, front_longer}
 use Rattle.zre_shared.specs.Lines.{line, lines}
 use Rattle.zre_shared.specs.declared.write.Write.{Write}
 

@@ -4,7 +4,7 @@ use Rattle.std.specs.Io.KnownBytes.{Appends, IsAtEnd}
 use Rattle.std.proofs.KnownBytes.{Appends-nil, Appends-trans, Appends-kept, Consumes-nil, Consumes-trans}
 use Rattle.std.proofs.lemmas.List.{length-append, length-take-le}
 use Rattle.zre_outside.specs.Told.{MovesOn, AppendsFront}
-use Rattle.zre_outside.proofs.Through.{front_after, front_longer}
+use Rattle.zre_outside.proofs.GatheredText.{front_after, front_longer}
 use Rattle.zre_commands.specs.declared.pump.status.Status.{Status}
 use Rattle.zre_commands.specs.declared.pump.status.Status.TheVariants as statuses
 use Rattle.zre_commands.specs.pump.Meaning.{Meaning, whole_text}

@@ -37,7 +37,7 @@ impl CountingNode {
         self.count()
     }
 
-    // The same with a piece of a connection.
+    // Takes a piece of a connection and counts what it brought.
     #[inline(always)]
     fn take_piece(&mut self, at: u64, conn: u64, bytes: &[u8]) -> Result<(), OutOfMemory>
         ensures { (g : Config) (J : List EntryValue) → Counted g J self.old →
@@ -92,9 +92,11 @@ pub fn push_summary(
     peers: u16,
     messages: u32,
 ) -> Result<(), OutOfMemory>
+    // The bounds of an exercise.
     requires some { 1 ≤ peers }
     requires few { peers ≤ 256 }
     requires short { messages ≤ 1000000 }
+    // What a call that is done gives.
     ensures { OnOk result (out.new ≡ out.old ++ text seed peers messages) }
 {
     let mut run = CountingNode {

@@ -64,9 +64,11 @@ impl Follower {
     // Takes octets from the front of these, and appends the text that they add: a message that lies there whole is read
     // where it lies, and else what is unfinished goes on. Gives how many there were.
     fn feed_front(&mut self, octets: &[u8], out: &mut Octets) -> Result<usize, OutOfMemory>
+        // What a caller knows.
         requires some { 0 < length octets.now }
         requires running { is_spent self.old.run ≡ false }
         requires reading { self.old.reader.spent ≡ false }
+        // What the front of the octets adds.
         ensures fed { FeedsFront result self.old self.new octets.now out.old out.new }
         ensures same { peer_of self.new ≡ peer_of self.old }
         ensures within { IfOk result (λ len. (0 < len) × (len ≤ length octets.now)) }

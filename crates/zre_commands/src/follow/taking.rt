@@ -59,7 +59,8 @@ fn take_whole(
     }
 }
 
-// The same. After HELLO the message is looked at where it lies: a further HELLO alone is made.
+// Takes the message that the frames mean, if they mean one. After HELLO it is read where it lies; only a further
+// HELLO is made.
 fn take_frames(
     alloc: Global,
     frames: &Frames,

@@ -12,7 +12,7 @@ pub fn push_bad_line(out: &mut Octets, place: u64) -> Result<(), OutOfMemory>
     out.push(b'\n')
 }
 
-/// The same of an input of lines: with a line and a column in it, each from 1.
+/// The last line where an input of lines is bad: with a line and a column in it, each from 1.
 pub fn push_bad_line_at(out: &mut Octets, line: u64, column: u64) -> Result<(), OutOfMemory>
     ensures { OnOk result (out.new ≡ out.old ++ bad_line_at line column) }
 {

@@ -49,10 +49,12 @@ pub trait Machine {
     /// gathered. A long one need not lie whole in memory: what is gathered may be written on the way. Says whether the
     /// input is refused.
     fn finish<O: Sink>(&self, taken: u64, text: &mut Octets, out: &mut O) -> Result<bool, NextFault>
+        // The last text.
         ensures bad { (o : List ℕ) → fed self.now o → length o ≡ taken
             → IfOk result (λ bad. bad ≡ (says self.now).is_bad o) }
         ensures ending { (o : List ℕ) → fed self.now o → length o ≡ taken → OnOk result
             (WritesThrough text.old text.new (O.written out.old) (O.written out.new) ((says self.now).ending o)) }
+        // What is written before it.
         ensures front { (o : List ℕ) → fed self.now o → length o ≡ taken → OnErr result
             (AppendsFront (O.written out.old) (O.written out.new) (text.old ++ (says self.now).ending o)) }
         ensures later { O.faults out.old ≤ O.faults out.new }

@@ -41,6 +41,7 @@ struct PumpTurn {
 // How many octets the next read asks for, where so many may still be taken.
 fn portion(left: u64) -> usize
     requires { 0 < left }
+    // Some octets, and no more than are allowed.
     ensures some { 0 < result }
     ensures most { result ≤ 2048 }
     ensures within { result ≤ left }
@@ -50,7 +51,9 @@ fn portion(left: u64) -> usize
 
 // Writes octets. A refusal is told as the status with which a command ends by it.
 fn write_text<O: Sink>(out: &mut O, octets: &[u8]) -> Result<(), Status>
+    // What is written.
     ensures written { OnOk result (Appends (O.written out.old) (O.written out.new) octets.now) }
+    // What a refusal tells.
     ensures refused { IfErr result (λ status. Refuses status (Rose (O.faults out.old) (O.faults out.new))
         (AppendsFront (O.written out.old) (O.written out.new) octets.now)) }
     ensures unread { IfErr result (λ status. status ≢ ReadFault) }
@@ -72,8 +75,10 @@ struct PumpText {
 impl PumpText {
     // Writes the text that comes before any input is read.
     fn begin<M: Machine, O: Sink>(&mut self, machine: &M, out: &mut O) -> Result<(), Status>
+        // What is written.
         ensures begun { M.fed machine.now [] →
             OnOk result (Appends (O.written out.old) (O.written out.new) ((M.says machine.now).text [])) }
+        // What a refusal tells.
         ensures refused { M.fed machine.now [] →
             IfErr result (λ status. Refuses status (Rose (O.faults out.old) (O.faults out.new))
             (AppendsFront (O.written out.old) (O.written out.new) ((M.says machine.now).text []))) }
@@ -89,10 +94,12 @@ impl PumpText {
 
     // Feeds a piece and writes its text.
     fn tell<M: Machine, O: Sink>(&mut self, machine: &mut M, piece: &[u8], out: &mut O) -> Onward
+        // What is told, and how it goes on.
         ensures told { (o : List ℕ) → M.fed machine.old o → (M.says machine.old).is_stopped o ≡ false →
             Told result (M.fed machine.new) (M.says machine.old) o piece.now (O.written out.old) (O.written out.new)
             (Rose (O.faults out.old) (O.faults out.new)) }
         ensures unread { result ≢ no_read }
+        // The machine and the sink.
         ensures same { M.says machine.new ≡ M.says machine.old }
         ensures writes { O.faults out.old ≤ O.faults out.new }
     {
@@ -119,6 +126,7 @@ impl PumpText {
         buf: &mut [u8],
     ) -> PumpTurn
         requires { 0 < length buf.old }
+        // What is read.
         ensures bound { result.read ≤ length buf.new }
         ensures moved { MovesOn (I.left input.old) (I.left input.new) (I.taken input.old) (I.taken input.new)
             (take result.read buf.new) }
@@ -127,7 +135,9 @@ impl PumpText {
             (I.left input.new) (O.written out.old) (O.written out.new)
             (Rose (I.faults input.old) (I.faults input.new)) (Rose (O.faults out.old) (O.faults out.new)) }
         ensures refused { TurnRefuses result.next (I.refused input.old) (I.refused input.new) }
+        // The machine.
         ensures same { M.says machine.new ≡ M.says machine.old }
+        // The source and the sink.
         ensures reads { I.faults input.old ≤ I.faults input.new }
         ensures writes { O.faults out.old ≤ O.faults out.new }
     {
@@ -154,12 +164,15 @@ impl PumpText {
         taken: u64,
         out: &mut O,
     ) -> Result<bool, NextFault>
+        // The last text.
         ensures bad { (o : List ℕ) → M.fed machine.now o → length o ≡ taken →
             IfOk result (λ bad. bad ≡ (M.says machine.now).is_bad o) }
         ensures ending { (o : List ℕ) → M.fed machine.now o → length o ≡ taken →
             OnOk result (Appends (O.written out.old) (O.written out.new) ((M.says machine.now).ending o)) }
+        // What is written.
         ensures front { (o : List ℕ) → M.fed machine.now o → length o ≡ taken →
             OnErr result (AppendsFront (O.written out.old) (O.written out.new) ((M.says machine.now).ending o)) }
+        // The sink.
         ensures writes { O.faults out.old ≤ O.faults out.new }
         ensures failed { IsErrOf result NextFault.Failed → Rose (O.faults out.old) (O.faults out.new) }
     {

@@ -38,8 +38,8 @@ impl Network {
     pub fn node(&self, node: u8) -> Option<&Node>
         ensures there { (ms : List MoveValue) → HasRun ms self.now →
             is_some result ≡ is_some (running node (history ms)) }
-        ensures stands { (ms : List MoveValue) (a : Incarnation) → HasRun ms self.now → running node (history ms) ≡ Some a →
-            IfSome result (λ n. StandsFor a.settings (journal a (history ms)) n.now) }
+        ensures stands { (ms : List MoveValue) (a : Incarnation) → HasRun ms self.now →
+            running node (history ms) ≡ Some a → IfSome result (λ n. StandsFor a.settings (journal a (history ms)) n.now) }
     {
         let Some(start) = self.runner(node) else {
             return None;

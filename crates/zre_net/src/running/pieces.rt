@@ -22,7 +22,7 @@ fn hear(carrier: &mut Carrier, most: u64) -> Result<Bytes, OutOfMemory>
     ensures { IfOk result (λ b. IsHeard carrier.old most b carrier.new) }
 {
     let octets = carrier.waiting.take(most)?;
-    if carrier.ear.hear(octets.as_slice())? > 1 {
+    if carrier.read_side.hear(octets.as_slice())? > 1 {
         return Err(OutOfMemory);
     }
     Ok(octets)

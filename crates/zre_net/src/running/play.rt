@@ -87,7 +87,8 @@ impl Network {
     /// named is there; and the octets of all messages, and those that connections have yet to hand in, are within
     /// their limits. Where it isn't, or no memory was left, nothing is known of the network any more.
     pub fn take(&mut self, one: Move, told: &mut SaidEvents) -> Result<bool, OutOfMemory>
-        ensures good { (ms : List MoveValue) → HasRun ms self.old → IfOk result (λ good. good ≡ is_good one (history ms)) }
+        ensures good { (ms : List MoveValue) → HasRun ms self.old →
+            IfOk result (λ good. good ≡ is_good one (history ms)) }
         ensures runs { (ms : List MoveValue) → HasRun ms self.old →
             IfOk result (λ good. OnTrue good (HasRun (ms ++ one ∷ []) self.new)) }
         ensures told { (ms : List MoveValue) → HasRun ms self.old →

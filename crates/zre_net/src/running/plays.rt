@@ -9,9 +9,9 @@ ghost use Rattle.zre_net.specs.Rows.{IsBegun, HasStopped, IsLoaded, IsSpelled, I
 ghost use Rattle.zre_net.specs.Running.{StandsAfter, IsPlayed};
 
 use crate::moves::Part;
-use crate::running::ear::Ear;
 use crate::running::network::{Network, add_owner, may_have, set_running};
 use crate::running::nth::{nth, place_of};
+use crate::running::read_side::ReadSide;
 use crate::running::rows::{Carrier, Started, Way};
 use crate::running::sender::Sender;
 use crate::running::waiting::Waiting;
@@ -197,12 +197,12 @@ impl Network {
         let Some(started) = nth(self.started.as_slice(), to) else {
             return Err(OutOfMemory);
         };
-        let ear = Ear::new(self.alloc, started.id);
+        let read_side = ReadSide::new(self.alloc, started.id);
         self.conns.push(Carrier {
             to,
             along,
             waiting: Waiting::new(self.alloc),
-            ear,
+            read_side,
         })?;
         let conn = self.conns.len() as u64;
         self.step(to, at, Input::Opened { conn })?;

@@ -1,6 +1,6 @@
 //! What a network keeps of starts, beacons, links and connections, each under its number from 1.
 
-use crate::running::ear::Ear;
+use crate::running::read_side::ReadSide;
 use crate::running::sender::Sender;
 use crate::running::waiting::Waiting;
 use zre_values::{PeerId, take_apart};
@@ -39,12 +39,12 @@ pub(crate) struct Carrier {
     pub to: u64,
     pub along: Way,
     pub waiting: Waiting,
-    pub ear: Ear,
+    pub read_side: ReadSide,
 }
 
 impl Drop for Carrier {
     fn drop(self) {
-        take_apart!(self, Carrier: to, along, waiting, ear);
+        take_apart!(self, Carrier: to, along, waiting, read_side);
     }
 }
 

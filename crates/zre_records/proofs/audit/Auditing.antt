@@ -8,7 +8,7 @@ use Rattle.zre_capture.specs.Journal.{settings, bad, bad_at_end}
 use Rattle.zre_capture.specs.declared.fault.BadCapture.{BadCapture}
 use Rattle.zre_capture.specs.declared.format.Format.TheVariants.{Second}
 use Rattle.zre_values.specs.declared.settings.Settings.{Settings}
-use Rattle.zre_capture.proofs.Staying.{bad_stays}
+use Rattle.zre_capture.proofs.BadStaysBad.{bad_stays}
 use Rattle.zre_records.specs.audit.Audit.{earlier, own_front, is_again, later_bad, later_bad_at_end, moved, audit}
 use Rattle.zre_records.specs.audit.Cut.{mark, lines_of}
 use Rattle.zre_records.specs.audit.Seam.{after, parted, before_seam, from_seam}

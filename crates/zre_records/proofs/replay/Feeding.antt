@@ -6,7 +6,7 @@ use Rattle.zre_capture.specs.declared.format.Format.TheVariants.{First}
 use Rattle.zre_capture.proofs.Growing.{journal_grows}
 use Rattle.zre_values.specs.declared.settings.Settings.{Settings as Config}
 use Rattle.zre_journal.specs.Events.{events}
-use Rattle.zre_journal.proofs.Joined.{continues}
+use Rattle.zre_journal.proofs.JoinedEntries.{continues}
 use Rattle.zre_node.specs.declared.node.Node.{Node}
 use Rattle.zre_outside.specs.declared.entry.Entry.{Entry}
 use Rattle.zre_peer.specs.Lines.{line, lines}

@@ -12,7 +12,7 @@ use Rattle.zre_capture.proofs.Growing.{journal_grows, settings_stay}
 use Rattle.zre_capture.proofs.Heads.{settings_of-some}
 use Rattle.zre_capture.proofs.Lines.{entries-bad}
 use Rattle.zre_journal.specs.Events.{events}
-use Rattle.zre_journal.proofs.Joined.{continues}
+use Rattle.zre_journal.proofs.JoinedEntries.{continues}
 use Rattle.zre_node.specs.declared.node.Node.{Node}
 use Rattle.zre_node.specs.Journal.{StandsFor}
 use Rattle.zre_outside.specs.declared.entry.Entry.{Entry}

@@ -4,7 +4,7 @@ use Rattle.std.specs.Prelude.{Result, Ok, Err, OnErr}
 use Rattle.std.specs.Option.{option_or}
 use Rattle.zre_net.specs.Answer.{bad_in, bad_move}
 use Rattle.zre_net.specs.Reading.{bad_line, lines_in, moves_of}
-use Rattle.zre_net.proofs.Long.{as_short, is_short}
+use Rattle.zre_net.proofs.TooLongText.{as_short, is_short}
 use Rattle.zre_records.specs.simulate.Simulate.{answer, answer_of}
 
 -- a front of a text, and what may be kept of the next piece

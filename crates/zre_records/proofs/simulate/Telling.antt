@@ -3,7 +3,7 @@ use Rattle.std.proofs.Common.{◌≡◌, ℕ, ◌+◌, ◌<◌, ◌≤◌, List,
 use Rattle.std.specs.Prelude.{get_or}
 use Rattle.std.proofs.lemmas.List.{take_more, take-append-drop}
 use Rattle.zre_outside.specs.Told.{AppendsFront, WritesThrough}
-use Rattle.zre_outside.proofs.Through.{front_none, front_longer, through_none, through_more, through_then, through_front, gathers_much}
+use Rattle.zre_outside.proofs.GatheredText.{front_none, front_longer, through_none, through_more, through_then, through_front, gathers_much}
 use Rattle.zre_peer.specs.declared.event.Event.{Event}
 use Rattle.zre_records.specs.simulate.Simulate.{told_line, told_lines}
 

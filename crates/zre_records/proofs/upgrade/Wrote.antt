@@ -4,7 +4,7 @@ use Rattle.zre_outside.specs.declared.entry.Entry.{Entry}
 use Rattle.zre_capture.specs.Journal.{last_reading}
 use Rattle.zre_capture.specs.Lines.{line, lines}
 use Rattle.zre_capture.specs.declared.format.Format.TheVariants.{Second}
-use Rattle.zre_capture.proofs.After.{last-append, lines-append}
+use Rattle.zre_capture.proofs.JoinedEntries.{last-append, lines-append}
 use Rattle.zre_records.specs.upgrade.Written.{Wrote}
 
 pub wrote_none : (J : List Entry) (at : ℕ) (out : List ℕ) → at ≡ last_reading 0 J → Wrote J [] at out out

@@ -34,7 +34,7 @@ pub struct Auditor {
     second: Option<Later>,
 }
 
-// The same place, counted from the first of some lines before it.
+// A place that is counted from the first of some lines before it.
 fn move_by(bad: Option<BadCapture>, lines: u64) -> Result<Option<BadCapture>, OutOfMemory>
     ensures { IfOk result (λ found. found ≡ option_map (moved lines) bad) }
 {

@@ -36,7 +36,7 @@ fn watch_entries(watch: &mut Watch, entries: Entries) -> Result<Entries, OutOfMe
     Ok(Entries::from_vec(items))
 }
 
-// The same of a watch, if there is one.
+// Tells entries to a watch, if there is one.
 fn watch_if_any(watch: &mut Option<Watch>, entries: Entries) -> Result<Entries, OutOfMemory>
     ensures { (told : Option ConfigValue) (J : List EntryValue) → IsWatched told J watch.old
         → OnOk result (IsWatched told (J ++ entries) watch.new) }

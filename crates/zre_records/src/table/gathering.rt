@@ -33,7 +33,7 @@ fn gather_entry(
     take_shout(replica, group, &shout, is_done(stopped, events))
 }
 
-// The same of entries, one after the other. The list that is handed back has their memory.
+// Gathers what entries bring, one after the other. The list that is handed back has their memory.
 fn gather_entries(
     alloc: Global,
     node: &mut Node,
@@ -51,7 +51,7 @@ fn gather_entries(
     Ok(Entries::from_vec(items))
 }
 
-/// The same of a node, if there is one.
+/// Gathers what entries bring at a node, if there is one.
 pub(crate) fn gather_if_any(
     alloc: Global,
     node: &mut Option<Node>,

@@ -1,6 +1,6 @@
 use Rattle.std.proofs.Common.{[], take, refl, sym, ap, ◌∙◌, arith}
 use Rattle.std.proofs.lemmas.List.{length-take, length-take-le}
-use Rattle.zre_outside.proofs.Through.{front_longer}
+use Rattle.zre_outside.proofs.GatheredText.{front_longer}
 use Rattle.zre_outside.proofs.RefusedReads.{none_then, last_then}
 use Rattle.zre_outside.proofs.Rising.{rose_since}
 use Rattle.zre_commands.specs.declared.pump.pumping.Onward.TheVariants as nexts

@@ -2,7 +2,7 @@ use Rattle.std.proofs.Common.{◌≡◌, ◌++◌, ◌∷◌, [], ◌∙◌, ap,
 use Rattle.std.proofs.lemmas.Bool.{OnTrue_at}
 use Rattle.std.specs.Vec.Iter.{into_iter_items}
 use Rattle.zre_outside.proofs.Errors.{on_err}
-use Rattle.zre_outside.proofs.Through.{through_none}
+use Rattle.zre_outside.proofs.GatheredText.{through_none}
 use Rattle.zre_net.proofs.Runs.{took_all}
 use Rattle.zre_records.proofs.simulate.Twice.{CameOf, came_on, front_of, front_on}
 use Rattle.zre_records.proofs.simulate.answer.write_moves.Goals as goal

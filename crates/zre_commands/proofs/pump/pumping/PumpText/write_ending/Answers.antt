@@ -1,6 +1,6 @@
 use Rattle.std.proofs.Common.{[]}
 use Rattle.zre_outside.proofs.Errors.{on_err}
-use Rattle.zre_outside.proofs.Through.{through_end}
+use Rattle.zre_outside.proofs.GatheredText.{through_end}
 use Rattle.zre_commands.proofs.pump.pumping.PumpText.write_ending.Goals as goal
 
 pub returns-in_err-write_gathered-clause-front : goal.returns-in_err-write_gathered-clause-front

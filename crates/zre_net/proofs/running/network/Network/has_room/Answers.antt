@@ -1,6 +1,6 @@
 use Rattle.std.proofs.Common.{◌&&◌, ◌∙◌, ap, sym, leb, le-leb}
 use Rattle.std.proofs.lemmas.Bool.{lt-leb}
-use Rattle.zre_net.proofs.Rooms.{room_same}
+use Rattle.zre_net.proofs.CountedOctets.{room_same}
 use Rattle.zre_net.proofs.running.network.Network.has_room.Goals as goal
 
 pub returns-then-self-le-QUEUED_OCTETS : goal.returns-then-self-le-QUEUED_OCTETS

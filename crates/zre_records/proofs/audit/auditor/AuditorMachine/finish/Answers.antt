@@ -1,6 +1,6 @@
 use Rattle.std.proofs.Common.{refl, sym, ap, ◌∙◌, ◌++◌}
 use Rattle.std.specs.Prelude.{is_some}
-use Rattle.zre_outside.proofs.Through.{gathers}
+use Rattle.zre_outside.proofs.GatheredText.{gathers}
 use Rattle.zre_commands.specs.pump.Lines.{refusal}
 use Rattle.zre_records.specs.audit.Audit.{place, verdict}
 use Rattle.zre_records.proofs.Endings.{good_end, bad_end}

@@ -2,7 +2,7 @@ use Rattle.std.proofs.Common.{sym, ◌∙◌}
 use Rattle.zre_capture.specs.Journal.{bad_at_end}
 use Rattle.zre_capture.specs.declared.format.Format.TheVariants.{Second}
 use Rattle.zre_outside.proofs.Errors.{on_err}
-use Rattle.zre_outside.proofs.Through.{gathers}
+use Rattle.zre_outside.proofs.GatheredText.{gathers}
 use Rattle.zre_records.specs.table.Table.{text}
 use Rattle.zre_records.proofs.Endings.{bad_end, good_front, good_through}
 use Rattle.zre_records.proofs.table.Tabulating.{text_is}

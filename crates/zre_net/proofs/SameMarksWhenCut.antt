@@ -13,13 +13,13 @@ use Rattle.zre_journal.specs.Happens.{has_stopped, at_input, marks, with_entry}
 use Rattle.zre_journal.specs.Heard.{clock}
 use Rattle.zre_journal.specs.Links.{is_linked, replies}
 use Rattle.zre_journal.specs.Peers.{refreshes, active}
-use Rattle.zre_journal.proofs.Always.{is_proper}
-use Rattle.zre_journal.proofs.Alike.{same_runs}
+use Rattle.zre_journal.proofs.ProperChronicles.{is_proper}
+use Rattle.zre_journal.proofs.WithoutEntryMarks.{same_runs}
 use Rattle.zre_journal.proofs.Cutting.{AreInner, inner_of, inner_clock, same_cut}
-use Rattle.zre_journal.proofs.Going.{are_others}
-use Rattle.zre_journal.proofs.Joined.{continues, after-append}
-use Rattle.zre_journal.proofs.Says.{input_sound}
-use Rattle.zre_journal.proofs.Silent.{Comes-proper}
+use Rattle.zre_journal.proofs.MarkByMark.{are_others}
+use Rattle.zre_journal.proofs.JoinedEntries.{continues, after-append}
+use Rattle.zre_journal.proofs.SaidOnConnections.{input_sound}
+use Rattle.zre_journal.proofs.ProperPeers.{Comes-proper}
 
 -- ---- marks that are no entries
 

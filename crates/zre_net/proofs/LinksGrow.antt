@@ -8,7 +8,7 @@ use Rattle.zre_journal.specs.Chronicle.{Mark, Comes, after, followed}
 use Rattle.zre_journal.specs.Events.{chronicle}
 use Rattle.zre_journal.specs.Happens.{marks, with_entry}
 use Rattle.zre_journal.specs.Links.{line, bodies, put_on}
-use Rattle.zre_journal.proofs.Joined.{continues}
+use Rattle.zre_journal.proofs.JoinedEntries.{continues}
 use Rattle.zre_net.specs.History.{journal, entry_of, chronicle_of}
 use Rattle.zre_msg.specs.declared.message.Message.{Message}
 use Rattle.zre_net.specs.History.{Happening}

@@ -39,9 +39,9 @@ use Rattle.zre_journal.specs.Heard.{newly_completed}
 use Rattle.zre_journal.specs.LinkEntries.{at_linked, cause_by_reply, end_by, at_reply, at_unlinked, at_took}
 use Rattle.zre_journal.specs.Ticks.{is_silent, is_evasive, probe, at_tick}
 use Rattle.zre_journal.specs.Commands.{has_group, at_join, at_leave, is_too_big, at_whisper, is_member, at_shout, at_stop, at_command}
-use Rattle.zre_journal.proofs.Listed.{All-kept, Apart-kept, All-join}
+use Rattle.zre_journal.proofs.NumberedLists.{All-kept, Apart-kept, All-join}
 use Rattle.zre_journal.proofs.Ticks.{expiring, wavering, stale, wavering_apart, excludes}
-use Rattle.zre_journal.proofs.Steps.{choice}
+use Rattle.zre_journal.proofs.WhenMarksCome.{choice}
 use Rattle.zre_net.specs.Sender.{is_slight}
 
 abbrev pub pongs : ℕ → Mark → Bool

@@ -11,14 +11,14 @@ use zre_values::{OutOfMemory, PeerId, take_apart};
 use zre_zmtp::FeedFault;
 
 /// The octets of a connection so far.
-pub(crate) struct Ear {
+pub(crate) struct ReadSide {
     alloc: Global,
     conn: Conn,
 }
 
-impl Drop for Ear {
+impl Drop for ReadSide {
     fn drop(self) {
-        take_apart!(self, Ear: alloc, conn);
+        take_apart!(self, ReadSide: alloc, conn);
     }
 }
 
@@ -32,12 +32,12 @@ fn with_fault(arrivals: usize) -> Result<u64, OutOfMemory>
     }
 }
 
-impl Ear {
+impl ReadSide {
     /// None has come to the node with this UUID.
-    pub fn new(alloc: Global, own: PeerId) -> Ear
+    pub fn new(alloc: Global, own: PeerId) -> ReadSide
         ensures { result.conn ≡ conn_after own [] }
     {
-        Ear {
+        ReadSide {
             alloc,
             conn: Conn::accept(alloc, own),
         }

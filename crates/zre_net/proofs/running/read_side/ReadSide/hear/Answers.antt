@@ -1,8 +1,8 @@
 use Rattle.std.proofs.Common.{◌∙◌, ◌||◌, ap, refl}
 use Rattle.zre_mailbox.specs.Conn.{is_spent}
-use Rattle.zre_net.proofs.Ears.{deaf, heard}
-use Rattle.zre_net.proofs.running.ear.Ear.hear.Goals.{then-ignored-via-then-ignored, then-ignored-via-else-ignored+then-spent}
-use Rattle.zre_net.proofs.running.ear.Ear.hear.Goals as goal
+use Rattle.zre_net.proofs.ReadSides.{deaf, heard}
+use Rattle.zre_net.proofs.running.read_side.ReadSide.hear.Goals.{then-ignored-via-then-ignored, then-ignored-via-else-ignored+then-spent}
+use Rattle.zre_net.proofs.running.read_side.ReadSide.hear.Goals as goal
 
 pub returns-then-ignored : goal.returns-then-ignored
 returns-then-ignored c = λ own o e. elim c.then-ignored.branch [

@@ -21,10 +21,10 @@ use Rattle.zre_journal.specs.Heard.{bytes}
 use Rattle.zre_journal.specs.Links.{groups, status, line, put_on, links, is_linked, replies, text, taken}
 use Rattle.zre_journal.specs.Peers.{Life, life, lives, births, runner, runner_at, counted, message_at, active}
 use Rattle.zre_journal.specs.Proper.{IsProper}
-use Rattle.zre_journal.proofs.Always.{is_proper}
-use Rattle.zre_journal.proofs.Alike.{through, same_runs, same_ignored, latest_but, each_but, ever_but, lives_but, births_but, open_but, groups_but, status_but, taken_but}
+use Rattle.zre_journal.proofs.ProperChronicles.{is_proper}
+use Rattle.zre_journal.proofs.WithoutEntryMarks.{through, same_runs, same_ignored, latest_but, each_but, ever_but, lives_but, births_but, open_but, groups_but, status_but, taken_but}
 use Rattle.zre_journal.proofs.Cutting.{same_cut}
-use Rattle.zre_net.proofs.Same.{Sim, new_but, sim}
+use Rattle.zre_net.proofs.SameMarksWhenCut.{Sim, new_but, sim}
 use Rattle.zre_node.specs.Journal.{StandsIn, StandsFor}
 use Rattle.zre_node.specs.Stands.{Holds, Rests, IsKept, IsPeer, IsConn, kept_conn, heard_by, link_of_life}
 use Rattle.zre_tables.specs.declared.connection.Connection.{Connection}

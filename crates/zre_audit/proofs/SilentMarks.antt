@@ -25,8 +25,8 @@ use Rattle.zre_journal.specs.Arrivals.{at_opened, end_of_run, at_shut, taken_ove
 use Rattle.zre_journal.specs.LinkEntries.{at_linked, cause_by_reply, end_by, at_reply, at_unlinked, at_took}
 use Rattle.zre_journal.specs.Ticks.{is_silent, is_evasive, is_stale, probe, at_tick}
 use Rattle.zre_journal.specs.Commands.{has_group, at_join, at_leave, at_stop}
-use Rattle.zre_journal.proofs.Steps.{choice}
-use Rattle.zre_journal.proofs.Listed.{All-join}
+use Rattle.zre_journal.proofs.WhenMarksCome.{choice}
+use Rattle.zre_journal.proofs.NumberedLists.{All-join}
 use Rattle.zre_audit.specs.Coding.{octets_of, code}
 use Rattle.zre_audit.specs.Exchanged.{peer_on}
 use Rattle.zre_audit.specs.Seen.{is_connect}
