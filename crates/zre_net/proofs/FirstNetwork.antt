@@ -1,5 +1,5 @@
 -- A network before any move, and who runs at a node from now on.
-use Rattle.std.proofs.Common.{◌≡◌, ℕ, zero, suc, ◌<◌, Bool, true, false, cond, eqb, List, [], length, drop, replicate, Option, Some, None, refl, sym, ap, ◌∙◌, subst, arith, eqb-true, eq-eqb, true≢false}
+use Rattle.std.proofs.Common.{◌≡◌, ℕ, zero, suc, ◌<◌, Bool, true, false, cond, eqb, List, [], ◌∷◌, ◌++◌, length, drop, replicate, Option, Some, None, refl, sym, ap, ◌∙◌, subst, arith, eqb-true, eq-eqb, true≢false}
 use Rattle.std.specs.Prelude.{slice_set, option_and_then, sum_by}
 use Rattle.std.specs.List.{list_all}
 use Rattle.zre_net.specs.declared.running.network.Network.{Network}
@@ -50,3 +50,14 @@ runs_now n start rows now z e k = ap (running_at k) e ∙ by (eqb k n) refl
         turned : (t : Bool) → eqb n k ≡ t → t ≡ false
         turned false r = refl
         turned true r = absurd (true≢false (sym (eq-eqb k n (sym (eqb-true n k r))) ∙ q))
+
+-- a row in which nothing runs, after the others
+pub nothing_more : (k : ℕ) (rows : List (Option ℕ)) → running_at k (rows ++ None ∷ []) ≡ running_at k rows
+nothing_more zero [] = refl
+nothing_more (suc k) [] = refl
+nothing_more zero (r ∷ rows) = refl
+nothing_more (suc k) (r ∷ rows) = nothing_more k rows
+
+-- who runs where, with a start in a row that there is room for
+pub runs_then : (n : ℕ) (start : Option ℕ) (rows mid now : List (Option ℕ)) → ((k : ℕ) → running_at k mid ≡ running_at k rows) → n < length mid → now ≡ slice_set mid n start → with_running n start rows now
+runs_then n start rows mid now same z e k = runs_now n start mid now z e k ∙ ap (λ o. cond (eqb k n) start o) (same k)

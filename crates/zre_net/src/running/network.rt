@@ -1,4 +1,4 @@
-ghost use Rattle.std.specs.Prelude.{◌≡◌, [], List, Some, option_map, IfOk, OnOk};
+ghost use Rattle.std.specs.Prelude.{◌≡◌, ◌<◌, ℕ, [], List, length, Some, option_map, IfOk, OnOk};
 ghost use Rattle.std.specs.List.{list_all, list_any};
 ghost use Rattle.zre_net.specs.History.{Happening, Incarnation, incarnations};
 ghost use Rattle.zre_net.specs.Numbers.{conns, routes};
@@ -173,6 +173,17 @@ impl Network {
     }
 }
 
+// Makes room for the row at this place. Nothing runs in a row that is new.
+fn make_room(rows: &mut Vec<Option<u64>>, place: usize) -> Result<(), OutOfMemory>
+    ensures same { (node : ℕ) → running_at node rows.new.items ≡ running_at node rows.old.items }
+    ensures room { OnOk result (place < length rows.new.items) }
+{
+    'room: while rows.len() <= place {
+        rows.push(None)?;
+    }
+    Ok(())
+}
+
 /// From now on this start runs at a node, or none.
 pub(crate) fn set_running(
     rows: &mut Vec<Option<u64>>,
@@ -182,9 +193,7 @@ pub(crate) fn set_running(
     ensures { OnOk result (with_running node start rows.old.items rows.new.items) }
 {
     let place = node as usize;
-    if place >= rows.len() {
-        return Err(OutOfMemory);
-    }
+    make_room(rows, place)?;
     rows[place] = start;
     Ok(())
 }

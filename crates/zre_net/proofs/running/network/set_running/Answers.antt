@@ -1,0 +1,7 @@
+use Rattle.std.proofs.Common.{refl}
+use Rattle.zre_net.proofs.Begins.{runs_then}
+use Rattle.zre_net.proofs.running.network.set_running.Goals as goal
+
+pub returns : goal.returns
+returns c =
+    runs_then c.args.node c.args.start c.args.rows.now.items c.make_room.new.rows.items _ c.make_room.ensures.same c.in_ok-make_room.ensures.room refl
