@@ -28,7 +28,7 @@ use Rattle.zre_node.specs.Journal.{StandsFor, is_spent}
 use Rattle.zre_capture.specs.Lines.{line, lines, IsEntry}
 use Rattle.zre_capture.specs.Journal.{last_reading}
 use Rattle.zre_capture.specs.declared.format.Format.TheVariants.{Second}
-use Rattle.zre_capture.proofs.After.{last-append, lines-append}
+use Rattle.zre_capture.proofs.JoinedEntries.{last-append, lines-append}
 use Rattle.zre_actor.specs.declared.ending.Ending.{Ending}
 use Rattle.zre_actor.specs.declared.ending.Ending.TheVariants as ending
 use Rattle.zre_actor.specs.declared.views.Placed.{Placed}

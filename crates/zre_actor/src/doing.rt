@@ -50,11 +50,13 @@ impl<W: World, R: Recorder> Actor<W, R> {
     /// world do the acts. What is to be told stands in the step.
     pub(crate) fn take_entry(&mut self, entry: Entry) -> Result<(), Ending>
         requires { self.old.recording.keep ≡ true → R.begun self.old.recording.rec ≡ true }
+        // What the entry brought.
         ensures ok { (g : Config) (J : List EntryValue) → StandsFor g J self.old.node
             → OnOk result (Went g J entry self.old.recording.keep self.old.recording.before
             (W.told self.old.world) (W.told self.new.world)
             (R.kept self.old.recording.rec) (R.kept self.new.recording.rec) self.new.node self.new.step.events) }
         ensures next { OnOk result (self.new.recording.before ≡ entry.at) }
+        // A recorder or a node that fails.
         ensures broke { (g : Config) (J : List EntryValue) → StandsFor g J self.old.node
             → IfErr result (λ x. Broke g J entry self.old.recording.keep self.old.recording.before
             (W.told self.old.world) (W.told self.new.world)
@@ -63,10 +65,12 @@ impl<W: World, R: Recorder> Actor<W, R> {
         ensures world { (W.looked self.new.world ≡ W.looked self.old.world)
             × (W.faults self.new.world ≡ W.faults self.old.world)
             × (W.refused self.new.world ≡ W.refused self.old.world) }
+        // What stays as it was.
         ensures keep { self.new.recording.keep ≡ self.old.recording.keep }
         ensures unkept { self.old.recording.keep ≡ false → self.new.recording.rec ≡ self.old.recording.rec }
         ensures begun { R.begun self.new.recording.rec ≡ R.begun self.old.recording.rec }
         ensures named { Keeps (R.named self.old.recording.rec) (R.named self.new.recording.rec) }
+        // Faults of the recorder, and the entry itself.
         ensures later { R.faults self.old.recording.rec ≤ R.faults self.new.recording.rec }
         ensures counts { R.refused self.new.recording.rec
             ≡ refused_after (is_unkept result) (R.refused self.old.recording.rec) }
@@ -94,15 +98,18 @@ impl<R: Recorder> Recording<R> {
     // Puts the line of an entry, where that is wanted.
     fn keep_line(&mut self, entry: &Entry) -> Result<(), Ending>
         requires { self.old.keep ≡ true → R.begun self.old.rec ≡ true }
+        // What is kept of the line, and where it breaks off.
         ensures kept { OnOk result (self.old.keep ≡ true
             → Appends (R.kept self.old.rec) (R.kept self.new.rec) (line Second self.old.before entry.now)) }
         ensures broke { IfErr result (λ x. (self.old.keep ≡ true)
             × AppendsFront (R.kept self.old.rec) (R.kept self.new.rec) (line Second self.old.before entry.now)
             × IsRefusal (R.faults self.old.rec) (R.faults self.new.rec) x) }
+        // What stays as it was.
         ensures keep { self.new.keep ≡ self.old.keep }
         ensures unkept { self.old.keep ≡ false → self.new.rec ≡ self.old.rec }
         ensures begun { R.begun self.new.rec ≡ R.begun self.old.rec }
         ensures named { Keeps (R.named self.old.rec) (R.named self.new.rec) }
+        // Faults of the recorder.
         ensures later { R.faults self.old.rec ≤ R.faults self.new.rec }
         ensures counts { R.refused self.new.rec ≡ refused_after (is_unkept result) (R.refused self.old.rec) }
         ensures inside { IfErr result (λ x. is_world_fault x ≡ false) }
@@ -123,11 +130,14 @@ fn put_line<R: Recorder>(
     entry: &Entry,
 ) -> Result<(), Ending>
     requires { R.begun rec.old ≡ true }
+    // What the recorder has of the line.
     ensures kept { OnOk result (Appends (R.kept rec.old) (R.kept rec.new) (line Second before entry.now)) }
     ensures front { AppendsFront (R.kept rec.old) (R.kept rec.new) (line Second before entry.now) }
     ensures ending { IfErr result (λ x. IsRefusal (R.faults rec.old) (R.faults rec.new) x) }
+    // What stays as it was.
     ensures begun { R.begun rec.new ≡ R.begun rec.old }
     ensures named { Keeps (R.named rec.old) (R.named rec.new) }
+    // Faults of the recorder.
     ensures later { R.faults rec.old ≤ R.faults rec.new }
     ensures counts { R.refused rec.new ≡ refused_after (is_unkept result) (R.refused rec.old) }
     ensures inside { IfErr result (λ x. is_world_fault x ≡ false) }

@@ -110,8 +110,10 @@ impl Pipes {
         pass: ActorPass,
         ending: Ending,
     ) -> Worked<W, R>
+        // What a caller knows.
         requires pipes { IsActorOf self.now pass }
         requires open { ending_of pass ≡ None }
+        // What the pass knows after Last.
         ensures pipes { IsActorOf self.now result.pass × (unused_by result.pass ≡ unused_by pass) }
         ensures same { (result.world ≡ actor.world) × (result.node ≡ actor.node)
             × (result.rec ≡ actor.recording.rec) × (result.ending ≡ ending) }
@@ -149,8 +151,10 @@ impl Pipes {
         mut pass: ActorPass,
         events: &mut Events,
     ) -> ActorPass
+        // What a caller knows.
         requires pipes { IsActorOf self.now pass }
         requires open { ending_of pass ≡ None }
+        // What the pass knows after all events were raised.
         ensures pipes { IsActorOf self.now result × (unused_by result ≡ unused_by pass) }
         ensures raised { raised_by result ≡ raised_by pass ++ events.old }
         ensures open { ending_of result ≡ None }

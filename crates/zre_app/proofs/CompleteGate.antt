@@ -8,7 +8,7 @@ use Rattle.zre_commands.specs.declared.pump.status.Status.{Status}
 use Rattle.zre_commands.specs.declared.pump.status.Status.TheVariants.{Done, Usage, BadInput, ReadFault, WriteFault, WorldFault, NoThread, TooLong, OutOfMemory, DeskFault}
 use Rattle.zre_chat.specs.Chat.{Seen}
 use Rattle.zre_chat.proofs.Rows.{memory_isnt}
-use Rattle.zre_chat.proofs.Whole.{none_started}
+use Rattle.zre_chat.proofs.ChatOfParts.{none_started}
 use Rattle.zre_gate.specs.Clients.{ClientRow}
 use Rattle.zre_gate.specs.Gate.{Client, IsCaused, IsGate}
 use Rattle.zre_gate.specs.declared.gate.Gate.{Gate}

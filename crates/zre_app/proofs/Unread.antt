@@ -6,7 +6,7 @@ use Rattle.zre_commands.specs.pump.Outcome.{Pumped}
 use Rattle.zre_commands.specs.declared.pump.status.Status.TheVariants as statuses
 use Rattle.zre_chat.specs.Chat.{Seen}
 use Rattle.zre_chat.proofs.Rows.{memory_isnt}
-use Rattle.zre_chat.proofs.Whole.{unstarted, none_started}
+use Rattle.zre_chat.proofs.ChatOfParts.{unstarted, none_started}
 use Rattle.zre_app.specs.declared.command.Command.{Command}
 use Rattle.zre_app.specs.declared.command.Command.TheVariants.{Plain, Chat}
 use Rattle.zre_app.specs.declared.plain_words.Plain.{Plain as PlainCommand}

@@ -1,11 +1,11 @@
-pub mod Asker
+pub mod SecondCaller
 pub mod Callers
-pub mod Early
+pub mod PreparingFailed
 pub mod First
 pub mod Fronts
-pub mod Living
+pub mod NodeThread
 pub mod Merged
 pub mod Parts
 pub mod Rows
 pub mod Talked
-pub mod Whole
+pub mod ChatOfParts

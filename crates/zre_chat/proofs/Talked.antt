@@ -38,12 +38,12 @@ use Rattle.zre_chat.specs.Stages.{Prepared}
 use Rattle.zre_chat.specs.Statuses.{least, of_read, of_print, of_work, of_thread}
 use Rattle.zre_chat.proofs.Fronts.{prefix_trans, quits_through, all_front, none_front, short_front, breaks_front, breaks_by}
 use Rattle.zre_chat.proofs.Merged.{all_under}
-use Rattle.zre_chat.proofs.Asker.{asked_few, asker_put}
+use Rattle.zre_chat.proofs.SecondCaller.{asked_few, asker_put}
 use Rattle.zre_chat.proofs.First.{least_holds, rest_holds}
-use Rattle.zre_chat.proofs.Living as living
+use Rattle.zre_chat.proofs.NodeThread as living
 use Rattle.zre_chat.proofs.Parts as parts
 use Rattle.zre_chat.proofs.Parts.{read_ended}
-use Rattle.zre_chat.proofs.Whole.{IsThrough, HasFound, read_orders, read_front, only, most}
+use Rattle.zre_chat.proofs.ChatOfParts.{IsThrough, HasFound, read_orders, read_front, only, most}
 
 module _ (g : Config) (start : Start) (name : Option (List ℕ)) (keep : Bool) (limit : ℕ) (s u t : Seen) (p : Prepared g start name keep s u)
     (n : Node) (how : Ending) (looked looked' : Bool) (actor actor' : ActorPass)

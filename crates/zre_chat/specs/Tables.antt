@@ -6,16 +6,16 @@ use Rattle.zre_actor.specs.Commands.{times}
 use Rattle.zre_actor.specs.Passes.{IsActorOf, IsCallerOf, IsTakerOf, AreCallersOf, IsNew, number, numbers_of}
 use Rattle.zre_actor.specs.Passes.{fresh_of, given_of, room_of, unused_by}
 use Rattle.zre_actor.specs.Passes.{popped_by, raised_by, ending_of, taken_by, last_of}
-use Rattle.zre_chat.specs.declared.places.Chair.{Chair}
-use Rattle.zre_chat.specs.declared.places.NodeSeat.{NodeSeat}
+use Rattle.zre_chat.specs.declared.places.CallerArgs.{CallerArgs}
+use Rattle.zre_chat.specs.declared.places.NodeArgs.{NodeArgs}
 use Rattle.zre_chat.specs.declared.table.Table.{Table}
 
 -- it belongs to these pipes, and nothing was put under its pass
-abbrev pub IsChair : Pipes → Chair → Type 0
-IsChair pipes c = (arc_value c.pipes ≡ pipes) × IsCallerOf pipes c.pass × IsNew c.pass
+abbrev pub AreCallerArgs : Pipes → CallerArgs → Type 0
+AreCallerArgs pipes c = (arc_value c.pipes ≡ pipes) × IsCallerOf pipes c.pass × IsNew c.pass
 
 -- it belongs to these pipes, which have so many callers, and nothing was done with its pass
-pub record IsFree (pipes : Pipes) (callers : ℕ) (s : NodeSeat) : Type 0 where
+pub record IsFree (pipes : Pipes) (callers : ℕ) (s : NodeArgs) : Type 0 where
   pub same : arc_value s.pipes ≡ pipes
   pub of_pipes : IsActorOf pipes s.pass
   pub unused : length (unused_by s.pass) + callers ≡ 16
@@ -31,8 +31,8 @@ parts pipes world node pass recorder keep limit = (pipes, world, node, pass, rec
 
 -- all passes belong to the pipes, which have so many callers more than these two, and nothing was done with any
 pub record IsLaid (more : ℕ) (t : Table) : Type 0 where
-  pub seat : IsFree (arc_value t.others.printer.pipes) (more + 2) t.seat
-  pub last : IsChair (arc_value t.others.printer.pipes) t.others.last
+  pub node_args : IsFree (arc_value t.others.printer.pipes) (more + 2) t.node_args
+  pub last : AreCallerArgs (arc_value t.others.printer.pipes) t.others.last
   pub of_asker : IsCallerOf (arc_value t.others.printer.pipes) t.others.printer.asker
   pub of_taker : IsTakerOf (arc_value t.others.printer.pipes) t.others.printer.taker
   pub new_asker : IsNew t.others.printer.asker

@@ -123,7 +123,7 @@ fn prepare<W: World, R: Recorder>(
     requires text { IfSome chat.capture (λ name. is_utf8 name ≡ true) }
     // The pipes are laid, the node is new, the capture is begun and the world started.
     ensures laid { IfOk result (λ table. IsLaid 0 table × HasMore 0 table) }
-    ensures node { IfOk result (λ table. StandsFor chat.config [] table.seat.node) }
+    ensures node { IfOk result (λ table. StandsFor chat.config [] table.node_args.node) }
     ensures opened { OnOk result (HasOpened chat.config chat.start chat.capture (R.begun rec.new)
         (W.told world.old) (W.told world.new) (R.kept rec.old) (R.kept rec.new) (R.named rec.old) (R.named rec.new)) }
     // What isn't used stays as it was; counts of faults never fall.

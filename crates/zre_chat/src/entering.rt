@@ -31,7 +31,7 @@ pub fn enter<W: World>(
     requires few { more ≤ 14 }
     // The pipes are laid, the node is new, and the world is started.
     ensures laid { IfOk result (λ table. IsLaid more table × HasMore more table) }
-    ensures node { IfOk result (λ table. StandsFor config [] table.seat.node) }
+    ensures node { IfOk result (λ table. StandsFor config [] table.node_args.node) }
     ensures told { OnOk result (W.told world.new ≡ option_map (with_start start.now) (W.told world.old)) }
     // The world's count never falls, and why it did not come that far.
     ensures later { W.faults world.old ≤ W.faults world.new }

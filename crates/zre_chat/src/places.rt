@@ -14,7 +14,7 @@ use zre_values::OutOfMemory;
 
 /// What the node's thread is given beside the world and the recorder.
 #[derive(Drop)]
-pub struct NodeSeat {
+pub struct NodeArgs {
     /// Where it pops commands, and raises events.
     pub pipes: Arc<Pipes, Global>,
     /// The node, before any entry.
@@ -38,7 +38,7 @@ pub struct NodeWork<W, R> {
 
 /// What the caller's own thread is given: it prints, and asks the node to stop where it has to.
 #[derive(Drop)]
-pub struct PrinterSeat {
+pub struct PrinterArgs {
     /// Where it takes events, and puts a quit.
     pub pipes: Arc<Pipes, Global>,
     /// Whether nothing more is to be put.
@@ -51,7 +51,7 @@ pub struct PrinterSeat {
 
 /// What a thread that puts commands is given.
 #[derive(Drop)]
-pub struct Chair {
+pub struct CallerArgs {
     /// Where it puts commands.
     pub pipes: Arc<Pipes, Global>,
     /// Whether nothing more is to be put.
@@ -60,16 +60,16 @@ pub struct Chair {
     pub pass: CallerPass,
 }
 
-/// A chair with this pass, which shares the pipes and the sign. OutOfMemory comes where no further share can be made.
-pub fn chair_at(
+/// A args_of_caller with this pass, which shares the pipes and the sign. OutOfMemory comes where no further share can be made.
+pub fn caller_args(
     pipes: &Arc<Pipes, Global>,
     over: &Arc<AtomicBool, Global>,
     pass: CallerPass,
-) -> Result<Chair, OutOfMemory>
-    ensures pipes { IfOk result (λ chair. arc_value chair.pipes ≡ arc_value pipes.now) }
-    ensures pass { IfOk result (λ chair. chair.pass ≡ pass) }
+) -> Result<CallerArgs, OutOfMemory>
+    ensures pipes { IfOk result (λ args_of_caller. arc_value args_of_caller.pipes ≡ arc_value pipes.now) }
+    ensures pass { IfOk result (λ args_of_caller. args_of_caller.pass ≡ pass) }
 {
-    Ok(Chair {
+    Ok(CallerArgs {
         pipes: Arc::try_clone(pipes)?,
         over: Arc::try_clone(over)?,
         pass,

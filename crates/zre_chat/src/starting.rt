@@ -7,14 +7,14 @@ ghost use Rattle.zre_outside.specs.Spawners.{job_of};
 ghost use Rattle.zre_actor.specs.Passes.{IsActorOf, ending_of};
 ghost use Rattle.zre_chat.specs.Tables.{parts};
 
-use crate::places::{NodeSeat, NodeWork};
+use crate::places::{NodeArgs, NodeWork};
 use zre_actor::ActorJob;
 use zre_outside::{Recorder, Refused, Running, Spawner, World};
 
 /// Starts the node's thread, or hands the world and the recorder back.
 pub fn start_node<W, R, P>(
     spawner: &mut P,
-    seat: NodeSeat,
+    node_args: NodeArgs,
     work: NodeWork<W, R>,
 ) -> Result<Running<ActorJob<W, R>>, (W, R)>
 where
@@ -22,14 +22,14 @@ where
     R: Recorder + Send + Drop + 'static,
     P: Spawner,
     // Nothing was done with the pass, and the capture is begun where one is kept.
-    requires pipes { IsActorOf (arc_value seat.pipes) seat.pass }
-    requires open { ending_of seat.pass ≡ None }
-    requires room { seat.pass.empties ≡ 0 }
+    requires pipes { IsActorOf (arc_value node_args.pipes) node_args.pass }
+    requires open { ending_of node_args.pass ≡ None }
+    requires room { node_args.pass.empties ≡ 0 }
     requires begun { work.keep ≡ true → R.begun work.rec ≡ true }
     // What the thread is started with, or all of it back.
     ensures started { IfOk result (λ running. let j = job_of running in
         parts j.pipes j.world j.node j.pass j.rec j.keep j.limit
-        ≡ parts seat.pipes work.world seat.node seat.pass work.rec work.keep work.limit) }
+        ≡ parts node_args.pipes work.world node_args.node node_args.pass work.rec work.keep work.limit) }
     ensures refused { IfErr result (λ back. back ≡ (work.world, work.rec)) }
     // The spawner's count rises where the start is refused.
     ensures later { P.faults spawner.old ≤ P.faults spawner.new }
@@ -37,10 +37,10 @@ where
     ensures counts { OnOk result (P.faults spawner.new ≡ P.faults spawner.old) }
 {
     let job = ActorJob {
-        pipes: seat.pipes,
+        pipes: node_args.pipes,
         world: work.world,
-        node: seat.node,
-        pass: seat.pass,
+        node: node_args.node,
+        pass: node_args.pass,
         rec: work.rec,
         keep: work.keep,
         limit: work.limit,

@@ -5,7 +5,7 @@ ghost use Rattle.zre_values.specs.Settings.{is_valid};
 ghost use Rattle.zre_node.specs.Journal.{StandsFor};
 ghost use Rattle.zre_chat.specs.Tables.{IsLaid, HasMore};
 
-use crate::places::{Chair, NodeSeat, PrinterSeat, Shares, chair_at, share, take_two};
+use crate::places::{CallerArgs, NodeArgs, PrinterArgs, Shares, caller_args, share, take_two};
 use std::alloc::Global;
 use zre_actor::{CallerPasses, Made, Pipes};
 use zre_journal::Config;
@@ -16,9 +16,9 @@ use zre_values::OutOfMemory;
 #[derive(Drop)]
 pub struct Others {
     /// Of who prints.
-    pub printer: PrinterSeat,
+    pub printer: PrinterArgs,
     /// Of who puts last.
-    pub last: Chair,
+    pub last: CallerArgs,
     /// The passes that weren't taken yet.
     pub callers: CallerPasses,
 }
@@ -27,7 +27,7 @@ pub struct Others {
 #[derive(Drop)]
 pub struct Table {
     /// Of the node's thread.
-    pub seat: NodeSeat,
+    pub node_args: NodeArgs,
     /// Of all others.
     pub others: Others,
 }
@@ -41,7 +41,7 @@ impl Table {
         // The pipes are laid, and the node is new.
         ensures laid { IfOk result (IsLaid more) }
         ensures more { IfOk result (HasMore more) }
-        ensures node { IfOk result (λ t. StandsFor config [] t.seat.node) }
+        ensures node { IfOk result (λ t. StandsFor config [] t.node_args.node) }
     {
         let Made {
             pipes,
@@ -56,13 +56,13 @@ impl Table {
             over,
         } = share(alloc, pipes)?;
         let (last, asker) = take_two(&mut callers);
-        let last = chair_at(&pipes, &over, last)?;
-        let seat = NodeSeat {
+        let last = caller_args(&pipes, &over, last)?;
+        let node_args = NodeArgs {
             pipes: pipes_of_node,
             node,
             pass: actor,
         };
-        let printer = PrinterSeat {
+        let printer = PrinterArgs {
             pipes,
             over,
             asker,
@@ -73,6 +73,6 @@ impl Table {
             last,
             callers,
         };
-        Ok(Table { seat, others })
+        Ok(Table { node_args, others })
     }
 }

@@ -9,7 +9,7 @@ ghost use Rattle.zre_actor.specs.Passes.{IsCallerOf, IsTakerOf, last_of};
 ghost use Rattle.zre_console.specs.printer.Printing.{HasPrinted};
 ghost use Rattle.zre_console.specs.printer.Asking.{asker_of};
 
-use crate::places::PrinterSeat;
+use crate::places::PrinterArgs;
 use std::alloc::Global;
 use std::sync::atomic::Ordering;
 use std::sync::{Arc, Wait};
@@ -78,7 +78,7 @@ fn asker_at(pass: CallerPass, refused: bool) -> Asker
     }
 }
 
-impl PrinterSeat {
+impl PrinterArgs {
     /// Starts the job, unless a thread was refused before, prints until Last, tells all who put commands that nothing
     /// more is to be put, and waits for the job. Where a thread was refused, the node is asked to stop at once.
     pub fn hold_talk<J, O: Sink, P: Spawner, T: Wait + Threads + Copy>(
@@ -113,7 +113,7 @@ impl PrinterSeat {
         ensures writes { O.faults out.old ≤ O.faults out.new }
         ensures starts { P.faults spawner.old ≤ P.faults spawner.new }
     {
-        let PrinterSeat {
+        let PrinterArgs {
             pipes,
             over,
             asker,

@@ -48,7 +48,7 @@ impl Table {
         requires begun { work.keep ≡ true → R.begun work.rec ≡ true }
         // What was read, given, done, written and kept, and the status.
         ensures chat { (g : ConfigValue) (start : StartValue) (name : Option (List ℕ)) (s : Seen)
-            → StandsFor g [] self.seat.node →
+            → StandsFor g [] self.node_args.node →
             Prepared g start name work.keep s (seen (I.left input) (I.taken input) (I.faults input)
             (W.told work.world) (W.faults work.world) (O.written out.old) (O.faults out.old)
             (R.kept work.rec) (R.named work.rec) (R.faults work.rec) (P.faults spawner.old)) →
@@ -67,9 +67,9 @@ impl Table {
         ensures later { (I.faults input ≤ I.faults result.input) × (O.faults out.old ≤ O.faults out.new)
             × (P.faults spawner.old ≤ P.faults spawner.new) }
     {
-        let Table { seat, others } = self;
+        let Table { node_args, others } = self;
         let limit = work.limit;
-        let working = match start_node(spawner, seat, work) {
+        let working = match start_node(spawner, node_args, work) {
             Ok(working) => working,
             Err((world, rec)) => {
                 drop(others);

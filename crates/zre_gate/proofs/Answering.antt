@@ -16,18 +16,18 @@ use Rattle.zre_console.specs.reader.Reading.{LinesOutcome, HasReadLines, EndsByR
 use Rattle.zre_console.proofs.lines.Quits.{typed-begin}
 use Rattle.zre_console.proofs.reader.Puts.{puts-none}
 use Rattle.zre_gate.specs.Clients.{ClientRow}
-use Rattle.zre_gate.specs.Halls.{Hall, IsGuest, IsAnswer}
+use Rattle.zre_gate.specs.ClientLists.{ClientList, IsNewClient, IsAnswer}
 
--- what was read of a client of a hall is its answer
-pub answered : (hall : Option Hall) (pipes : Pipes) (limit place : ℕ) (pass pass' : CallerPass) (before after : ClientRow) (e : InputEnd)
-    → IsGuest hall pipes limit place pass before → IsCallerOf pipes pass'
+-- what was read of a client of a client_list is its answer
+pub answered : (client_list : Option ClientList) (pipes : Pipes) (limit place : ℕ) (pass pass' : CallerPass) (before after : ClientRow) (e : InputEnd)
+    → IsNewClient client_list pipes limit place pass before → IsCallerOf pipes pass'
     → HasReadLines e limit pass pass' before.left after.left before.taken after.taken (Rose before.faults after.faults)
-    → before.faults ≤ after.faults → EndsByRefusal e before.refused after.refused → IsAnswer hall place after pass' e
-answered hall pipes limit place pass pass' before after e k of_pipes h later refused = record {
+    → before.faults ≤ after.faults → EndsByRefusal e before.refused after.refused → IsAnswer client_list place after pass' e
+answered client_list pipes limit place pass pass' before after e k of_pipes h later refused = record {
   there = k.there;
-  is_hall = k.is_hall;
+  is_client_list = k.is_client_list;
   served = record { number = number pass; before = before; after = after; octets = h.octets; commands = h.commands; end = e };
-  is_guest = k.is_guest;
+  is_new_client = k.is_new_client;
   is_after = refl;
   is_end = refl;
   is_served = record {
@@ -45,10 +45,10 @@ answered hall pipes limit place pass pass' before after e k of_pipes h later ref
 }
 
 -- of one that wasn't started nothing was read
-pub left_alone : (hall : Option Hall) (pipes : Pipes) (limit place : ℕ) (pass : CallerPass) (before : ClientRow)
-    → IsGuest hall pipes limit place pass before → IsAnswer hall place before pass end.Over
-left_alone hall pipes limit place pass before k =
-    answered hall pipes limit place pass pass before before end.Over k (subst (λ (p : Pipes). IsCallerOf p pass) (sym k.same_pipes) k.of_pipes) (record {
+pub left_alone : (client_list : Option ClientList) (pipes : Pipes) (limit place : ℕ) (pass : CallerPass) (before : ClientRow)
+    → IsNewClient client_list pipes limit place pass before → IsAnswer client_list place before pass end.Over
+left_alone client_list pipes limit place pass before k =
+    answered client_list pipes limit place pass pass before before end.Over k (subst (λ (p : Pipes). IsCallerOf p pass) (sym k.same_pipes) k.of_pipes) (record {
       octets = [];
       moved = record { consumed = Consumes-nil before.left; recorded = Appends-nil before.taken };
       within = omega arith;

@@ -18,8 +18,8 @@ use Rattle.zre_chat.specs.Statuses.{least}
 use Rattle.zre_chat.proofs.Rows.{memory_here}
 use Rattle.zre_gate.specs.Clients.{ClientRow, Served, IsServed, put_for, put_for_all, after_of, is_over, of_client}
 use Rattle.zre_gate.specs.Gathering.{IsOwnEnd, IsWell, Ends, Gathers, Closes}
-use Rattle.zre_gate.specs.Halls.{Hall, Guest, IsAnswer, number_of, guest_at, guest_of}
-use Rattle.zre_gate.proofs.Places.{guest_taken}
+use Rattle.zre_gate.specs.ClientLists.{ClientList, NewClient, IsAnswer, number_of, new_client_at, new_client_of}
+use Rattle.zre_gate.proofs.Places.{new_client_taken}
 use Rattle.std.proofs.Math.Seq.{take-length}
 
 -- ---- what several ends come to
@@ -76,7 +76,7 @@ module _ (served : List Served) (s : Served) (status status' : Status) (e : Ends
 pub none_gathered : (limit : ℕ) (p : CallerPass) → Gathers limit [] [] p p Done false
 none_gathered limit p = record {
   served = [];
-  are_guests = refl;
+  are_new_clients = refl;
   are_after = refl;
   each = All-nil (IsServed limit);
   same_number = refl;
@@ -86,21 +86,21 @@ none_gathered limit p = record {
   own_ends = λ _. All-nil IsOwnEnd;
 }
 
-pub one_gathered : (limit : ℕ) (guests : List Guest) (x : Guest) (afters : List ClientRow) (r : ClientRow) (p q q' o : CallerPass) (status status' : Status) (over over' : Bool)
-    → Gathers limit guests afters p q status over → (s : Served) → guest_of s ≡ x → s.after ≡ r → IsServed limit s → number o ≡ s.number → ended o ≡ [] → put_by o ≡ put_for s
+pub one_gathered : (limit : ℕ) (new_clients : List NewClient) (x : NewClient) (afters : List ClientRow) (r : ClientRow) (p q q' o : CallerPass) (status status' : Status) (over over' : Bool)
+    → Gathers limit new_clients afters p q status over → (s : Served) → new_client_of s ≡ x → s.after ≡ r → IsServed limit s → number o ≡ s.number → ended o ≡ [] → put_by o ≡ put_for s
     → number q' ≡ number q → ended q' ≡ ended q ++ number o ∷ ended o → put_by q' ≡ put_by q ++ put_by o
     → status' ≡ least (of_client s.end ∷ status ∷ []) → over' ≡ (over || is_over s.end)
-    → Gathers limit (guests ++ x ∷ []) (afters ++ r ∷ []) p q' status' over'
-one_gathered limit guests x afters r p q q' o status status' over over' g s is after served num none put same absorbed puts status_is over_is = record {
+    → Gathers limit (new_clients ++ x ∷ []) (afters ++ r ∷ []) p q' status' over'
+one_gathered limit new_clients x afters r p q q' o status status' over over' g s is after served num none put same absorbed puts status_is over_is = record {
   served = g.served ++ s ∷ [];
-  are_guests = map-append guest_of g.served (s ∷ []) ∙ ap (λ l. l ++ guest_of s ∷ []) g.are_guests ∙ ap (λ y. guests ++ y ∷ []) is;
+  are_new_clients = map-append new_client_of g.served (s ∷ []) ∙ ap (λ l. l ++ new_client_of s ∷ []) g.are_new_clients ∙ ap (λ y. new_clients ++ y ∷ []) is;
   are_after = map-append after_of g.served (s ∷ []) ∙ ap (λ l. l ++ s.after ∷ []) g.are_after ∙ ap (λ y. afters ++ y ∷ []) after;
   each = All-push (IsServed limit) g.served s g.each served;
   same_number = same ∙ g.same_number;
   absorbed = absorbed ∙ ap (λ l. ended q ++ number o ∷ l) none ∙ ap (λ l. l ++ number o ∷ []) g.absorbed
-      ∙ append_assoc (ended p) (map number_of guests) (number o ∷ [])
-      ∙ ap (λ n. ended p ++ (map number_of guests ++ n ∷ [])) (num ∙ ap number_of is)
-      ∙ ap (λ l. ended p ++ l) (sym (map-append number_of guests (x ∷ [])));
+      ∙ append_assoc (ended p) (map number_of new_clients) (number o ∷ [])
+      ∙ ap (λ n. ended p ++ (map number_of new_clients ++ n ∷ [])) (num ∙ ap number_of is)
+      ∙ ap (λ l. ended p ++ l) (sym (map-append number_of new_clients (x ∷ [])));
   put = puts ∙ ap (λ l. l ++ put_by o) g.put ∙ append_assoc (put_by p) (put_for_all g.served) (put_by o)
       ∙ ap (λ l. put_by p ++ (put_for_all g.served ++ l)) (put ∙ sym (append-nil (put_for s)))
       ∙ ap (λ l. put_by p ++ l) (sym (flat_map-append put_for g.served (s ∷ [])));
@@ -110,11 +110,11 @@ one_gathered limit guests x afters r p q q' o status status' over over' g s is a
 
 -- ---- the quit
 
-module _ (limit : ℕ) (guests : List Guest) (afters : List ClientRow) (old mid : CallerPass) (status : Status) (over : Bool) (g : Gathers limit guests afters old mid status over) where
-  pub not_closed : Closes limit guests afters old mid status
+module _ (limit : ℕ) (new_clients : List NewClient) (afters : List ClientRow) (old mid : CallerPass) (status : Status) (over : Bool) (g : Gathers limit new_clients afters old mid status over) where
+  pub not_closed : Closes limit new_clients afters old mid status
   not_closed = record { mid = mid; over = over; gathers = g; tail = []; closes = inl refl; puts = puts-none mid; calm = λ _. refl }
 
-  pub has_closed : (new : CallerPass) → over ≡ false → putting.Closes mid new → Closes limit guests afters old new status
+  pub has_closed : (new : CallerPass) → over ≡ false → putting.Closes mid new → Closes limit new_clients afters old new status
   has_closed new isnt c = record {
     mid = mid;
     over = over;
@@ -126,34 +126,34 @@ module _ (limit : ℕ) (guests : List Guest) (afters : List ClientRow) (old mid 
   }
 
 -- so many passes were absorbed
-pub closed_ended : (limit : ℕ) (guests : List Guest) (afters : List ClientRow) (old new : CallerPass) (status : Status) → Closes limit guests afters old new status → ended old ≡ [] → length (ended new) ≡ length guests
-closed_ended limit guests afters old new status k none =
-    ap length (k.puts.same_ended ∙ k.gathers.absorbed ∙ ap (λ l. l ++ map number_of guests) none) ∙ length-map guests number_of
+pub closed_ended : (limit : ℕ) (new_clients : List NewClient) (afters : List ClientRow) (old new : CallerPass) (status : Status) → Closes limit new_clients afters old new status → ended old ≡ [] → length (ended new) ≡ length new_clients
+closed_ended limit new_clients afters old new status k none =
+    ap length (k.puts.same_ended ∙ k.gathers.absorbed ∙ ap (λ l. l ++ map number_of new_clients) none) ∙ length-map new_clients number_of
 
--- ---- the next client of a hall
+-- ---- the next client of a client_list
 
-abbrev or_this : Hall → Option Hall → Hall
+abbrev or_this : ClientList → Option ClientList → ClientList
 or_this d None = d
 or_this d (Some h) = h
 
-pub same_hall : (hall : Option Hall) (a b : Hall) → hall ≡ Some a → hall ≡ Some b → a ≡ b
-same_hall hall a b is also = ap (or_this a) (sym is ∙ also)
+pub same_client_list : (client_list : Option ClientList) (a b : ClientList) → client_list ≡ Some a → client_list ≡ Some b → a ≡ b
+same_client_list client_list a b is also = ap (or_this a) (sym is ∙ also)
 
-pub next_gathered : (hall : Option Hall) (there : Hall) (first q q' o : CallerPass) (place : ℕ) (afters : List ClientRow) (r : ClientRow) (status status' : Status) (over over' : Bool) (end : InputEnd)
-    → IsAnswer hall place r o end → hall ≡ Some there → Gathers there.limit (take place there.guests) afters first q status over
+pub next_gathered : (client_list : Option ClientList) (there : ClientList) (first q q' o : CallerPass) (place : ℕ) (afters : List ClientRow) (r : ClientRow) (status status' : Status) (over over' : Bool) (end : InputEnd)
+    → IsAnswer client_list place r o end → client_list ≡ Some there → Gathers there.limit (take place there.new_clients) afters first q status over
     → number q' ≡ number q → ended q' ≡ ended q ++ number o ∷ ended o → put_by q' ≡ put_by q ++ put_by o
     → status' ≡ least (of_client end ∷ status ∷ []) → over' ≡ (over || is_over end)
-    → Gathers there.limit (take (place + 1) there.guests) (afters ++ r ∷ []) first q' status' over'
-next_gathered hall there first q q' o place afters r status status' over over' how a known g n e p st ov =
-    let same : a.there ≡ there = same_hall hall a.there there a.is_hall known in
-    let at : guest_at there.guests place ≡ Some (guest_of a.served) = subst (λ h. guest_at h.guests place ≡ Some (guest_of a.served)) same a.is_guest in
-    subst (λ l. Gathers there.limit l (afters ++ r ∷ []) first q' status' over') (sym (guest_taken there.guests place (guest_of a.served) at))
-    (one_gathered there.limit (take place there.guests) (guest_of a.served) afters r first q q' o status status' over over' g a.served refl a.is_after
+    → Gathers there.limit (take (place + 1) there.new_clients) (afters ++ r ∷ []) first q' status' over'
+next_gathered client_list there first q q' o place afters r status status' over over' how a known g n e p st ov =
+    let same : a.there ≡ there = same_client_list client_list a.there there a.is_client_list known in
+    let at : new_client_at there.new_clients place ≡ Some (new_client_of a.served) = subst (λ h. new_client_at h.new_clients place ≡ Some (new_client_of a.served)) same a.is_new_client in
+    subst (λ l. Gathers there.limit l (afters ++ r ∷ []) first q' status' over') (sym (new_client_taken there.new_clients place (new_client_of a.served) at))
+    (one_gathered there.limit (take place there.new_clients) (new_client_of a.served) afters r first q q' o status status' over over' g a.served refl a.is_after
     (subst (λ h. IsServed h.limit a.served) same a.is_served) a.is_number a.none_ended a.is_put n e p
     (st ∙ ap (λ x. least (of_client x ∷ status ∷ [])) (sym a.is_end)) (ov ∙ ap (λ x. over || is_over x) (sym a.is_end)))
 
 -- all of them
-pub all_gathered : (there : Hall) (first q : CallerPass) (place : ℕ) (afters : List ClientRow) (status : Status) (over : Bool) → length there.guests ≡ place
-    → Gathers there.limit (take place there.guests) afters first q status over → Gathers there.limit there.guests afters first q status over
+pub all_gathered : (there : ClientList) (first q : CallerPass) (place : ℕ) (afters : List ClientRow) (status : Status) (over : Bool) → length there.new_clients ≡ place
+    → Gathers there.limit (take place there.new_clients) afters first q status over → Gathers there.limit there.new_clients afters first q status over
 all_gathered there first q place afters status over all g =
-    subst (λ l. Gathers there.limit l afters first q status over) (ap (λ n. take n there.guests) (sym all) ∙ take-length there.guests) g
+    subst (λ l. Gathers there.limit l afters first q status over) (ap (λ n. take n there.new_clients) (sym all) ∙ take-length there.new_clients) g

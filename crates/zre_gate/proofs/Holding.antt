@@ -39,17 +39,17 @@ use Rattle.zre_chat.specs.Chat.{Seen}
 use Rattle.zre_chat.specs.Stages.{Prepared}
 use Rattle.zre_chat.specs.Statuses.{rank, least, of_print, of_work, of_thread}
 use Rattle.zre_chat.proofs.First.{least_holds, rest_holds}
-use Rattle.zre_chat.proofs.Asker.{asked_few, asker_put}
-use Rattle.zre_chat.proofs.Living as living
+use Rattle.zre_chat.proofs.SecondCaller.{asked_few, asker_put}
+use Rattle.zre_chat.proofs.NodeThread as living
 use Rattle.zre_chat.proofs.Merged.{all_under}
 use Rattle.zre_chat.proofs.Parts as parts
 use Rattle.zre_gate.specs.Clients.{ClientRow, Served, IsServed, put_for_all}
 use Rattle.zre_gate.specs.Clients as clients
 use Rattle.zre_gate.specs.Gate.{Client, IsClient, IsWhole, IsFree, IsLong, IsCaused, Merged, HasServed, IsGate, before_of, after_of, handed_of}
 use Rattle.zre_gate.specs.Gathering.{IsWell, IsOwnEnd, Gathers, Closes}
-use Rattle.zre_gate.specs.Halls as halls
+use Rattle.zre_gate.specs.ClientLists as client_lists
 use Rattle.zre_gate.specs.Interleaving.{IsInterleaving}
-use Rattle.zre_gate.specs.Halls.{Guest, number_of, guest_of}
+use Rattle.zre_gate.specs.ClientLists.{NewClient, number_of, new_client_of}
 use Rattle.zre_gate.proofs.Answering.{nat_prop}
 use Rattle.zre_gate.proofs.Clients.{client_for, plain_commands, is_client, is_free, is_whole, is_long}
 use Rattle.zre_gate.proofs.Merged.{num, IsPlain, its_named, quit_split, quits_front, map_split, nothing_mapped, named_front, is_interleaved, named_all, none_quit, all_last}
@@ -80,15 +80,15 @@ module _ (g : Config) (start : Start) (name : Option (List ℕ)) (keep : Bool) (
     (n : Node) (how : Ending) (looked looked' : Bool) (actor actor' : ActorPass)
     (w : IsWork g [] keep limit (scene u.told looked u.world_faults u.kept u.record_faults actor) (scene t.told looked' t.world_faults t.kept t.record_faults actor') n how)
     (named : Keeps u.named t.named) (none_popped : popped_by actor ≡ []) (none_raised : raised_by actor ≡ [])
-    (guests : List Guest) (afters : List ClientRow) (closer closer' : CallerPass) (close : Status)
+    (new_clients : List NewClient) (afters : List ClientRow) (closer closer' : CallerPass) (close : Status)
     (asker asker' : CallerPass) (refused : Bool) (taker taker' : TakerPass) (broke : Option NextFault)
     (d : HasPrinted (asker_of asker refused) taker taker' asker' broke u.written t.written)
     (write_rose : broke ≡ Some fault.Failed → Rose u.write_faults t.write_faults) (start_rose : refused ≡ true → Rose u.refusals t.refusals)
     (none_taken : taken_by taker ≡ []) (new_closer : IsNew closer) (new_asker : IsNew asker)
-    (apart : (m : ℕ) → times m (number closer ∷ number asker ∷ map number_of guests) ≤ 1)
+    (apart : (m : ℕ) → times m (number closer ∷ number asker ∷ map number_of new_clients) ≤ 1)
     (fronts : (m : ℕ) → IsPrefix (under m (popped_by actor')) (under m (puts_of (closer' ∷ asker' ∷ []))))
     (ends : (before : List Placed) (last : Placed) (m : ℕ) → popped_by actor' ≡ before ++ last ∷ [] → 1 ≤ times m last.ended → under m (popped_by actor') ≡ under m (puts_of (closer' ∷ asker' ∷ [])))
-    (all_taken : taken_by taker' ≡ raised_by actor') (desk : Type 0) (are_many : length guests ≡ many) where
+    (all_taken : taken_by taker' ≡ raised_by actor') (desk : Type 0) (are_many : length new_clients ≡ many) where
   abbrev statuses : List Status
   statuses = parts.statuses close broke how refused
 
@@ -131,21 +131,21 @@ module _ (g : Config) (start : Start) (name : Option (List ℕ)) (keep : Bool) (
   none_pending ending.TooLong x y stopped turns unstepped pending h is = absurd (cc)
   none_pending ending.OutOfMemory x y stopped turns unstepped pending h is = absurd (cc)
 
-  module _ (k : Closes limit guests afters closer closer' close) where
+  module _ (k : Closes limit new_clients afters closer closer' close) where
     -- ---- what the clients put
 
-    abbrev gathers : Gathers limit guests afters closer k.mid close k.over
+    abbrev gathers : Gathers limit new_clients afters closer k.mid close k.over
     gathers = k.gathers
 
     abbrev S : List Served
     S = k.gathers.served
 
-    their_numbers : map num S ≡ map number_of guests
-    their_numbers = sym (map_map number_of guest_of S) ∙ ap (map number_of) gathers.are_guests
+    their_numbers : map num S ≡ map number_of new_clients
+    their_numbers = sym (map_map number_of new_client_of S) ∙ ap (map number_of) gathers.are_new_clients
 
     put_first : put_by closer' ≡ put_for_all S ++ all_under (number closer) (map num S) k.tail
     put_first =
-        let numbers : ended k.mid ≡ map num S = gathers.absorbed ∙ ap (λ l. l ++ map number_of guests) new_closer.0 ∙ sym their_numbers in
+        let numbers : ended k.mid ≡ map num S = gathers.absorbed ∙ ap (λ l. l ++ map number_of new_clients) new_closer.0 ∙ sym their_numbers in
         k.puts.put ∙ ap (λ l. l ++ all_under (number k.mid) (ended k.mid) k.tail) (gathers.put ∙ ap (λ l. l ++ put_for_all S) new_closer.1)
         ∙ ap (λ (x : ℕ × List ℕ). put_for_all S ++ all_under x.0 x.1 k.tail) (λ i. (gathers.same_number i, numbers i))
 
@@ -208,10 +208,10 @@ module _ (g : Config) (start : Start) (name : Option (List ℕ)) (keep : Bool) (
           living.thread_caused g start name keep limit s u t p n how looked looked' actor actor' w named none_popped none_raised (asker_of asker refused) asker' taker taker' broke d write_rose none_taken all_taken status both well Needs tt tt (λ h. h) (λ h. h) (λ h. h) (λ h. inr h) refused start_rose,
         )
 
-        has_served : Merged limit the_clients handed status → HasServed limit handed w.turns (has_stopped (chronicle g w.entries)) s t desk (map halls.before_of guests) afters status
+        has_served : Merged limit the_clients handed status → HasServed limit handed w.turns (has_stopped (chronicle g w.entries)) s t desk (map client_lists.before_of new_clients) afters status
         has_served merged = record {
           clients = the_clients;
-          are_before = map_map before_of (client_for (its_named b)) S ∙ sym (map_map halls.before_of guest_of S) ∙ ap (map halls.before_of) gathers.are_guests;
+          are_before = map_map before_of (client_for (its_named b)) S ∙ sym (map_map client_lists.before_of new_client_of S) ∙ ap (map client_lists.before_of) gathers.are_new_clients;
           are_after = map_map after_of (client_for (its_named b)) S ∙ gathers.are_after;
           each = each;
           merged = merged;
@@ -246,16 +246,16 @@ module _ (g : Config) (start : Start) (name : Option (List ℕ)) (keep : Bool) (
         threads false e = cc
 
     their_afters : length afters ≡ many
-    their_afters = ap length (sym gathers.are_after) ∙ length-map S clients.after_of ∙ sym (length-map S guest_of) ∙ ap length gathers.are_guests ∙ are_many
+    their_afters = ap length (sym gathers.are_after) ∙ length-map S clients.after_of ∙ sym (length-map S new_client_of) ∙ ap length gathers.are_new_clients ∙ are_many
 
-    served : HasServed limit handed w.turns (has_stopped (chronicle g w.entries)) s t desk (map halls.before_of guests) afters status
+    served : HasServed limit handed w.turns (has_stopped (chronicle g w.entries)) s t desk (map client_lists.before_of new_clients) afters status
     served =
         let cut = map_split popped handed w.pending w.goes.are_handed in
         by cut.0 cut.1 cut.2 cut.3 cut.4 (quit_split cut.0 (subst QuitsLast (sym cut.3) (quits_front handed w.pending (subst QuitsLast w.goes.are_handed w.quits_last))))
       where
         by : (f r : List Placed) → popped ≡ f ++ r → map command_of f ≡ handed → map command_of r ≡ w.pending
             → (list_any is_quit (map command_of f) ≡ false) ⊎ ((b : List Placed) × (l : Placed) × (f ≡ b ++ l ∷ []) × (l.command ≡ Quit) × (list_any is_quit (map command_of b) ≡ false))
-            → HasServed limit handed w.turns (has_stopped (chronicle g w.entries)) s t desk (map halls.before_of guests) afters status
+            → HasServed limit handed w.turns (has_stopped (chronicle g w.entries)) s t desk (map client_lists.before_of new_clients) afters status
         by f r is_all is_handed is_pending (inl none) = has_served f r is_all none (record {
           body = map command_of f;
           tail = [];
@@ -300,7 +300,7 @@ module _ (g : Config) (start : Start) (name : Option (List ℕ)) (keep : Bool) (
                     (λ m told. (let e = ends b l m (is_popped ∙ last is) told in ap (under m) (sym is_popped) ∙ e ∙ ap (under m) all_puts))
 
   -- the clients are known to be there, and no more
-  pub gated : ∥ Closes limit guests afters closer closer' close ∥₁ → IsGate g start name limit many s t desk (map halls.before_of guests) afters status
+  pub gated : ∥ Closes limit new_clients afters closer closer' close ∥₁ → IsGate g start name limit many s t desk (map client_lists.before_of new_clients) afters status
   gated closes = record {
     lived = living.lived g start name keep limit s u t p n how looked looked' actor actor' w named none_popped none_raised (asker_of asker refused) asker' taker taker' broke d write_rose none_taken all_taken status both well;
     wrote = living.wrote g start name keep limit s u t p n how looked looked' actor actor' w named none_popped none_raised (asker_of asker refused) asker' taker taker' broke d write_rose none_taken all_taken status both well;

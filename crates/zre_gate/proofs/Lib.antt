@@ -5,5 +5,5 @@ pub mod Gathered
 pub mod Holding
 pub mod Merged
 pub mod Places
-pub mod Seating
+pub mod StartingClients
 pub mod Unopened

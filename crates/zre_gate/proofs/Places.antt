@@ -5,44 +5,44 @@ use Rattle.std.proofs.lemmas.List.Elements.{All-nil, All-cons, All-weaker}
 use Rattle.zre_actor.specs.Commands.{times}
 use Rattle.zre_actor.proofs.Sums.{is_first}
 use Rattle.zre_gate.specs.Clients.{ClientRow}
-use Rattle.zre_gate.specs.Halls.{Guest, guest, guest_at, guests_of, number_of, before_of}
+use Rattle.zre_gate.specs.ClientLists.{NewClient, new_client, new_client_at, new_clients_of, number_of, before_of}
 
-abbrev or_else : Guest → Option Guest → Guest
+abbrev or_else : NewClient → Option NewClient → NewClient
 or_else d None = d
 or_else d (Some x) = x
 
 -- one more of them
-pub guest_taken : (xs : List Guest) (k : ℕ) (x : Guest) → guest_at xs k ≡ Some x → take (k + 1) xs ≡ take k xs ++ x ∷ []
-guest_taken [] k x at = absurd (let e : None ≡ Some x = at in cc)
-guest_taken (y ∷ ys) zero x at = ap (λ z. z ∷ []) (ap (or_else y) at)
-guest_taken (y ∷ ys) (suc k) x at =
+pub new_client_taken : (xs : List NewClient) (k : ℕ) (x : NewClient) → new_client_at xs k ≡ Some x → take (k + 1) xs ≡ take k xs ++ x ∷ []
+new_client_taken [] k x at = absurd (let e : None ≡ Some x = at in cc)
+new_client_taken (y ∷ ys) zero x at = ap (λ z. z ∷ []) (ap (or_else y) at)
+new_client_taken (y ∷ ys) (suc k) x at =
     let e : suc k + 1 ≡ suc (k + 1) = omega arith in
-    ap (λ n. take n (y ∷ ys)) e ∙ ap (λ l. y ∷ l) (guest_taken ys k x at)
+    ap (λ n. take n (y ∷ ys)) e ∙ ap (λ l. y ∷ l) (new_client_taken ys k x at)
 
 -- each has its number and what it tells
-pub guest_there : (ns ms : List ℕ) (rs ss : List ClientRow) (n : ℕ) (r : ClientRow) → length ns ≡ length rs → guest_at (guests_of (ns ++ n ∷ ms) (rs ++ r ∷ ss)) (length ns) ≡ Some (guest n r)
-guest_there [] ms [] ss n r same = refl
-guest_there [] ms (q ∷ rs) ss n r same = absurd (omega (arith, same))
-guest_there (m ∷ ns) ms [] ss n r same = absurd (omega (arith, same))
-guest_there (m ∷ ns) ms (q ∷ rs) ss n r same = guest_there ns ms rs ss n r (omega (arith, same))
+pub new_client_there : (ns ms : List ℕ) (rs ss : List ClientRow) (n : ℕ) (r : ClientRow) → length ns ≡ length rs → new_client_at (new_clients_of (ns ++ n ∷ ms) (rs ++ r ∷ ss)) (length ns) ≡ Some (new_client n r)
+new_client_there [] ms [] ss n r same = refl
+new_client_there [] ms (q ∷ rs) ss n r same = absurd (omega (arith, same))
+new_client_there (m ∷ ns) ms [] ss n r same = absurd (omega (arith, same))
+new_client_there (m ∷ ns) ms (q ∷ rs) ss n r same = new_client_there ns ms rs ss n r (omega (arith, same))
 
-pub guests_length : (ns : List ℕ) (rs : List ClientRow) → length ns ≡ length rs → length (guests_of ns rs) ≡ length rs
-guests_length [] [] same = refl
-guests_length [] (r ∷ rs) same = absurd (omega (arith, same))
-guests_length (n ∷ ns) [] same = absurd (omega (arith, same))
-guests_length (n ∷ ns) (r ∷ rs) same = ap suc (guests_length ns rs (omega (arith, same)))
+pub new_clients_length : (ns : List ℕ) (rs : List ClientRow) → length ns ≡ length rs → length (new_clients_of ns rs) ≡ length rs
+new_clients_length [] [] same = refl
+new_clients_length [] (r ∷ rs) same = absurd (omega (arith, same))
+new_clients_length (n ∷ ns) [] same = absurd (omega (arith, same))
+new_clients_length (n ∷ ns) (r ∷ rs) same = ap suc (new_clients_length ns rs (omega (arith, same)))
 
-pub guests_numbers : (ns : List ℕ) (rs : List ClientRow) → length ns ≡ length rs → map number_of (guests_of ns rs) ≡ ns
-guests_numbers [] [] same = refl
-guests_numbers [] (r ∷ rs) same = refl
-guests_numbers (n ∷ ns) [] same = absurd (omega (arith, same))
-guests_numbers (n ∷ ns) (r ∷ rs) same = ap (λ l. n ∷ l) (guests_numbers ns rs (omega (arith, same)))
+pub new_clients_numbers : (ns : List ℕ) (rs : List ClientRow) → length ns ≡ length rs → map number_of (new_clients_of ns rs) ≡ ns
+new_clients_numbers [] [] same = refl
+new_clients_numbers [] (r ∷ rs) same = refl
+new_clients_numbers (n ∷ ns) [] same = absurd (omega (arith, same))
+new_clients_numbers (n ∷ ns) (r ∷ rs) same = ap (λ l. n ∷ l) (new_clients_numbers ns rs (omega (arith, same)))
 
-pub guests_before : (ns : List ℕ) (rs : List ClientRow) → length ns ≡ length rs → map before_of (guests_of ns rs) ≡ rs
-guests_before [] [] same = refl
-guests_before [] (r ∷ rs) same = absurd (omega (arith, same))
-guests_before (n ∷ ns) [] same = absurd (omega (arith, same))
-guests_before (n ∷ ns) (r ∷ rs) same = ap (λ l. r ∷ l) (guests_before ns rs (omega (arith, same)))
+pub new_clients_before : (ns : List ℕ) (rs : List ClientRow) → length ns ≡ length rs → map before_of (new_clients_of ns rs) ≡ rs
+new_clients_before [] [] same = refl
+new_clients_before [] (r ∷ rs) same = absurd (omega (arith, same))
+new_clients_before (n ∷ ns) [] same = absurd (omega (arith, same))
+new_clients_before (n ∷ ns) (r ∷ rs) same = ap (λ l. r ∷ l) (new_clients_before ns rs (omega (arith, same)))
 
 -- each of a list stands in it
 pub are_there : (ns : List ℕ) → All (λ n. 1 ≤ times n ns) ns

@@ -17,7 +17,7 @@ use Rattle.zre_commands.specs.declared.pump.status.Status.{Status}
 use Rattle.zre_commands.specs.declared.pump.status.Status.TheVariants.{Done, WriteFault, WorldFault, OutOfMemory, DeskFault}
 use Rattle.zre_chat.specs.Chat.{Seen, Holds, started}
 use Rattle.zre_chat.specs.Stages.{IsEarly}
-use Rattle.zre_chat.proofs.Whole.{unlived, unwritten, uncaptured}
+use Rattle.zre_chat.proofs.ChatOfParts.{unlived, unwritten, uncaptured}
 use Rattle.zre_gate.specs.Clients.{ClientRow}
 use Rattle.zre_gate.specs.Gate.{Client, IsClient, IsCaused, IsGate, before_of, after_of, handed_of}
 use Rattle.zre_gate.specs.Interleaving.{IsInterleaving, of_name}

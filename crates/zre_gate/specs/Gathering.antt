@@ -10,7 +10,7 @@ use Rattle.zre_console.specs.reader.Putting.{Puts, IsClose}
 use Rattle.zre_commands.specs.declared.pump.status.Status.{Status}
 use Rattle.zre_commands.specs.declared.pump.status.Status.TheVariants.{Done, TooLong, OutOfMemory}
 use Rattle.zre_gate.specs.Clients.{ClientRow, Served, IsServed, put_for_all, after_of, is_over, of_client}
-use Rattle.zre_gate.specs.Halls.{Hall, Guest, number_of, guest_of}
+use Rattle.zre_gate.specs.ClientLists.{ClientList, NewClient, number_of, new_client_of}
 
 -- it ended otherwise than because the gate was over
 abbrev pub IsOwnEnd : Served → Type 0
@@ -26,42 +26,42 @@ pub record Ends (served : List Served) (status : Status) : Type 0 where
       ⊎ ((status ≡ TooLong) × (x : Served) × Contains served x × (x.end ≡ end.TooLong)))
 
 -- these clients were waited for, and a pass absorbed theirs
-pub record Gathers (limit : ℕ) (guests : List Guest) (afters : List ClientRow) (old new : CallerPass) (status : Status)
+pub record Gathers (limit : ℕ) (new_clients : List NewClient) (afters : List ClientRow) (old new : CallerPass) (status : Status)
     (over : Bool) : Type 0 where
   pub served : List Served
-  pub are_guests : map guest_of served ≡ guests
+  pub are_new_clients : map new_client_of served ≡ new_clients
   pub are_after : map after_of served ≡ afters
   pub each : All (IsServed limit) served
   pub same_number : number new ≡ number old
-  pub absorbed : ended new ≡ ended old ++ map number_of guests
+  pub absorbed : ended new ≡ ended old ++ map number_of new_clients
   pub put : put_by new ≡ put_by old ++ put_for_all served
   pub ends : Ends served status
   pub own_ends : over ≡ false → All IsOwnEnd served
 
 -- and then a quit was put or nothing, and nothing where one ended because the gate was over
-pub record Closes (limit : ℕ) (guests : List Guest) (afters : List ClientRow) (old new : CallerPass) (status : Status)
+pub record Closes (limit : ℕ) (new_clients : List NewClient) (afters : List ClientRow) (old new : CallerPass) (status : Status)
     : Type 0 where
   pub mid : CallerPass
   pub over : Bool
-  pub gathers : Gathers limit guests afters old mid status over
+  pub gathers : Gathers limit new_clients afters old mid status over
   pub tail : List Command
   pub closes : IsClose tail
   pub puts : Puts mid new tail
   pub calm : over ≡ true → tail ≡ []
 
--- a hall is known, with these pipes
-abbrev pub IsHall : Option Hall → Pipes → Type 0
-IsHall hall pipes = (there : Hall) × (hall ≡ Some there) × (there.pipes ≡ pipes)
+-- a client_list is known, with these pipes
+abbrev pub IsClientList : Option ClientList → Pipes → Type 0
+IsClientList client_list pipes = (there : ClientList) × (client_list ≡ Some there) × (there.pipes ≡ pipes)
 
 -- and it has so many clients
-abbrev pub IsFull : Option Hall → ℕ → Type 0
-IsFull hall many = (there : Hall) → hall ≡ Some there → length there.guests ≡ many
+abbrev pub IsFull : Option ClientList → ℕ → Type 0
+IsFull client_list many = (there : ClientList) → client_list ≡ Some there → length there.new_clients ≡ many
 
--- all clients of the hall that is known
-abbrev pub GathersAll : Option Hall → List ClientRow → (old new : CallerPass) → Status → Bool → Type 0
-GathersAll hall afters old new status over =
-    (there : Hall) → hall ≡ Some there → ∥ Gathers there.limit there.guests afters old new status over ∥₁
+-- all clients of the client_list that is known
+abbrev pub GathersAll : Option ClientList → List ClientRow → (old new : CallerPass) → Status → Bool → Type 0
+GathersAll client_list afters old new status over =
+    (there : ClientList) → client_list ≡ Some there → ∥ Gathers there.limit there.new_clients afters old new status over ∥₁
 
-abbrev pub ClosesAll : Option Hall → List ClientRow → (old new : CallerPass) → Status → Type 0
-ClosesAll hall afters old new status =
-    (there : Hall) → hall ≡ Some there → ∥ Closes there.limit there.guests afters old new status ∥₁
+abbrev pub ClosesAll : Option ClientList → List ClientRow → (old new : CallerPass) → Status → Type 0
+ClosesAll client_list afters old new status =
+    (there : ClientList) → client_list ≡ Some there → ∥ Closes there.limit there.new_clients afters old new status ∥₁

@@ -1,7 +1,7 @@
 pub mod Clients
 pub mod Gate
 pub mod Gathering
-pub mod Halls
+pub mod ClientLists
 pub mod Interleaving
 pub mod Stages
 pub mod Tables

@@ -2,7 +2,7 @@
 
 ghost use Rattle.std.specs.Arc.{arc_value};
 ghost use Rattle.zre_gate.specs.Clients.{row};
-ghost use Rattle.zre_gate.specs.Halls.{IsGuest, IsAnswer};
+ghost use Rattle.zre_gate.specs.ClientLists.{IsNewClient, IsAnswer};
 
 use crate::gate_name::GateName;
 use crossbeam_channel::Sender;
@@ -21,7 +21,7 @@ pub struct Answer<C: Source, B: GateName> {
     pub done: ReaderDone<C>,
     /// Of which gate it is.
     pub of: PhantomData<B>,
-    ghost known: { ∥ IsAnswer B.hall place (row C.left C.taken C.faults C.refused done.input) done.pass done.end ∥₁ },
+    ghost known: { ∥ IsAnswer B.client_list place (row C.left C.taken C.faults C.refused done.input) done.pass done.end ∥₁ },
 }
 
 /// Reads a client and puts the commands of its lines, as a [`ReaderJob`] does, but for the quit, which isn't put. The
@@ -34,7 +34,7 @@ pub struct ClientJob<C: Source, B: GateName> {
     pub place: u64,
     /// Where the answer goes to. A thread's handle can't be waited for by another thread than the one that started it.
     pub line: Sender<Answer<C, B>>,
-    ghost known: { ∥ IsGuest B.hall (arc_value reading.pipes) reading.limit place reading.pass
+    ghost known: { ∥ IsNewClient B.client_list (arc_value reading.pipes) reading.limit place reading.pass
         (row C.left C.taken C.faults C.refused reading.input) ∥₁ },
 }
 

@@ -5,8 +5,8 @@ ghost use Rattle.std.specs.Arc.{arc_value};
 ghost use Rattle.zre_actor.specs.declared.passes.CallerPass.{CallerPass as CallerPassValue};
 ghost use Rattle.zre_actor.specs.Passes.{IsCallerOf};
 ghost use Rattle.zre_gate.specs.Clients.{row};
-ghost use Rattle.zre_gate.specs.Gathering.{IsHall, IsFull, GathersAll, ClosesAll};
-ghost use Rattle.zre_gate.specs.Halls.{Hall};
+ghost use Rattle.zre_gate.specs.Gathering.{IsClientList, IsFull, GathersAll, ClosesAll};
+ghost use Rattle.zre_gate.specs.ClientLists.{ClientList};
 
 use crate::client::Answer;
 use crate::gate_name::GateName;
@@ -37,8 +37,8 @@ pub struct CloserJob<C: Source, B: GateName> {
     /// Where the clients are kept that were waited for.
     pub clients: Vec<C>,
     ghost of_pipes: { IsCallerOf (arc_value pipes) pass },
-    ghost hall: { ∥ IsHall B.hall (arc_value pipes) ∥₁ },
-    ghost many: { IsFull B.hall (length lines.items) },
+    ghost client_list: { ∥ IsClientList B.client_list (arc_value pipes) ∥₁ },
+    ghost many: { IsFull B.client_list (length lines.items) },
     ghost room: { (clients.items ≡ []) × (length lines.items ≤ vec_capacity clients) },
 }
 
@@ -52,7 +52,7 @@ impl<C: Source + Send + Drop + 'static, B: GateName + Send + 'static> Task for C
     type Out = Read<Vec<C>>;
 
     ghost means = { λ job out. IsCallerOf (arc_value job.pipes) out.pass
-        × ClosesAll B.hall (map (row C.left C.taken C.faults C.refused) out.input.items) job.pass out.pass out.status };
+        × ClosesAll B.client_list (map (row C.left C.taken C.faults C.refused) out.input.items) job.pass out.pass out.status };
 }
 
 impl<T: Wait + Copy, C: Source + Send + Drop + 'static, B: GateName + Send + 'static> Job<T>
@@ -82,10 +82,10 @@ where
     T: Wait + Copy,
     requires pipes { IsCallerOf pipes.now gathered.pass }
     ensures pipes { IsCallerOf pipes.now result.pass }
-    ensures closes { (hall : Option Hall) (first : CallerPassValue)
-        → GathersAll hall (map (row C.left C.taken C.faults C.refused) gathered.clients.items) first gathered.pass
+    ensures closes { (client_list : Option ClientList) (first : CallerPassValue)
+        → GathersAll client_list (map (row C.left C.taken C.faults C.refused) gathered.clients.items) first gathered.pass
         gathered.status gathered.over
-        → ClosesAll hall (map (row C.left C.taken C.faults C.refused) result.input.items) first result.pass
+        → ClosesAll client_list (map (row C.left C.taken C.faults C.refused) result.input.items) first result.pass
         result.status }
 {
     let GatheredClients {

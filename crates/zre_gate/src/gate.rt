@@ -138,7 +138,7 @@ impl Gate {
         requires none { clients.old.items ≡ [] }
         // The pipes are laid, and the node is new.
         ensures laid { IfOk result (λ table. IsLaid self.clients table
-            × StandsFor self.chat.config [] table.base.seat.node) }
+            × StandsFor self.chat.config [] table.base.node_args.node) }
         // The clients have come, the capture is begun and the world started.
         ensures attends { Attends self.local (D.told desk.old) (D.told desk.new) clients.new.items }
         ensures all { OnOk result

@@ -5,8 +5,8 @@ ghost use Rattle.zre_actor.specs.Passes.{IsCallerOf};
 ghost use Rattle.zre_chat.specs.Statuses.{least};
 ghost use Rattle.zre_gate.specs.Clients.{row, of_client as client_status, is_over as is_over_end};
 ghost use Rattle.zre_actor.specs.declared.passes.CallerPass.{CallerPass as CallerPassValue};
-ghost use Rattle.zre_gate.specs.Gathering.{Gathers, IsHall, IsFull, GathersAll};
-ghost use Rattle.zre_gate.specs.Halls.{Hall};
+ghost use Rattle.zre_gate.specs.Gathering.{Gathers, IsClientList, IsFull, GathersAll};
+ghost use Rattle.zre_gate.specs.ClientLists.{ClientList};
 
 use crate::client::Answer;
 use crate::gate_name::GateName;
@@ -96,16 +96,16 @@ where
     T: Wait + Copy,
     // The pass belongs to the pipes, before and after; the list has room for one more.
     requires pipes { IsCallerOf pipes.now gathered.pass }
-    requires hall { ∥ IsHall B.hall pipes.now ∥₁ }
+    requires client_list { ∥ IsClientList B.client_list pipes.now ∥₁ }
     requires room { vec_len gathered.clients < vec_capacity gathered.clients }
     ensures pipes { IsCallerOf pipes.now result.pass }
     ensures room { (vec_len result.clients ≡ vec_len gathered.clients + 1)
         × (vec_capacity result.clients ≡ vec_capacity gathered.clients) }
     // One client more is gathered.
-    ensures gathers { (there : Hall) (first : CallerPassValue) → B.hall ≡ Some there
-        → ∥ Gathers there.limit (take place there.guests)
+    ensures gathers { (there : ClientList) (first : CallerPassValue) → B.client_list ≡ Some there
+        → ∥ Gathers there.limit (take place there.new_clients)
         (map (row C.left C.taken C.faults C.refused) gathered.clients.items) first gathered.pass gathered.status gathered.over ∥₁
-        → ∥ Gathers there.limit (take (place + 1) there.guests)
+        → ∥ Gathers there.limit (take (place + 1) there.new_clients)
         (map (row C.left C.taken C.faults C.refused) result.clients.items) first result.pass result.status result.over ∥₁ }
 {
     let GatheredClients {
@@ -141,12 +141,12 @@ where
     T: Wait + Copy,
     // The pass belongs to the pipes, before and after; the list has room for all.
     requires pipes { IsCallerOf pipes.now pass }
-    requires hall { ∥ IsHall B.hall pipes.now ∥₁ }
-    requires many { IsFull B.hall (length lines.items) }
+    requires client_list { ∥ IsClientList B.client_list pipes.now ∥₁ }
+    requires many { IsFull B.client_list (length lines.items) }
     requires room { (clients.items ≡ []) × (length lines.items ≤ vec_capacity clients) }
     ensures pipes { IsCallerOf pipes.now result.pass }
     // All clients are gathered.
-    ensures gathers { GathersAll B.hall (map (row C.left C.taken C.faults C.refused) result.clients.items) pass
+    ensures gathers { GathersAll B.client_list (map (row C.left C.taken C.faults C.refused) result.clients.items) pass
         result.pass result.status result.over }
 {
     let mut gathered = GatheredClients {

@@ -4,74 +4,78 @@ ghost use Rattle.std.specs.Prelude.{◌≡◌, ℕ, IfOk, map, length, All};
 ghost use Rattle.std.specs.Arc.{arc_value};
 ghost use Rattle.zre_actor.specs.Commands.{times};
 ghost use Rattle.zre_actor.specs.Passes.{AreCallersOf, IsNew, fresh_of, given_of, room_of, numbers_of};
-ghost use Rattle.zre_chat.specs.Tables.{IsChair, IsLaid as IsBase, HasMore};
-ghost use Rattle.zre_gate.specs.Tables.{IsLaid, chair_number};
+ghost use Rattle.zre_chat.specs.Tables.{AreCallerArgs, IsLaid as IsBase, HasMore};
+ghost use Rattle.zre_gate.specs.Tables.{IsLaid, caller_number};
 
 use std::alloc::Global;
 use std::collections::VecDeque;
 use std::sync::Arc;
 use std::sync::atomic::AtomicBool;
 use zre_actor::{CallerPasses, Pipes};
-use zre_chat::places::{Chair, chair_at};
+use zre_chat::places::{CallerArgs, caller_args};
 use zre_chat::table::Table as Base;
 use zre_values::OutOfMemory;
 
-/// What a chat's threads need too, a chair for each client, and room for the clients.
+/// What a chat's threads need too, a args_of_caller for each client, and room for the clients.
 #[derive(Drop)]
 pub(crate) struct GateTable<C> {
     pub base: Base,
-    pub chairs: VecDeque<Chair>,
+    pub all_args: VecDeque<CallerArgs>,
     pub left: Vec<C>,
 }
 
-// A chair for each pass that wasn't taken yet.
-fn chairs_for(
+// A args_of_caller for each pass that wasn't taken yet.
+fn caller_args_for(
     alloc: Global,
     pipes: &Arc<Pipes, Global>,
     over: &Arc<AtomicBool, Global>,
     callers: &mut CallerPasses,
     many: u8,
-) -> Result<VecDeque<Chair>, OutOfMemory>
+) -> Result<VecDeque<CallerArgs>, OutOfMemory>
     // So many callers are new.
     requires many { length (fresh_of callers.old) ≡ many }
     requires pipes { AreCallersOf (arc_value pipes.now) (fresh_of callers.old) }
     requires new { All IsNew (fresh_of callers.old) }
     // Each has its place, under its own number.
-    ensures chairs { IfOk result (λ chairs. All (IsChair (arc_value pipes.now)) chairs.items) }
-    ensures many { IfOk result (λ chairs. length chairs.items ≡ many) }
-    ensures numbers { (n : ℕ) → IfOk result (λ chairs. times n (map chair_number chairs.items)
+    ensures all_args { IfOk result (λ all_args. All (AreCallerArgs (arc_value pipes.now)) all_args.items) }
+    ensures many { IfOk result (λ all_args. length all_args.items ≡ many) }
+    ensures numbers { (n : ℕ) → IfOk result (λ all_args. times n (map caller_number all_args.items)
         ≡ times n (numbers_of (fresh_of callers.old))) }
     // Nothing else changes.
     ensures given { (given_of callers.new ≡ given_of callers.old) × (room_of callers.new ≡ room_of callers.old) }
 {
-    let mut chairs = VecDeque::with_capacity(alloc, usize::from(many))?;
+    let mut all_args = VecDeque::with_capacity(alloc, usize::from(many))?;
     'each: for _ in 0..many {
         let Some(pass) = callers.take() else {
             unreachable!();
         };
-        chairs.push_back(chair_at(pipes, over, pass)?)?;
+        all_args.push_back(caller_args(pipes, over, pass)?)?;
     }
-    Ok(chairs)
+    Ok(all_args)
 }
 
 impl<C: Drop> GateTable<C> {
-    /// Gives each of so many clients a chair.
+    /// Gives each of so many clients a args_of_caller.
     pub fn lay(alloc: Global, mut base: Base, many: u8) -> Result<GateTable<C>, OutOfMemory>
         // The pipes are laid, with passes for the clients.
         requires laid { IsBase many base }
         requires more { HasMore many base }
         // Each client has its place; the node's is as it was.
         ensures laid { IfOk result (IsLaid many) }
-        ensures seat { IfOk result (λ t. t.base.seat ≡ base.seat) }
+        ensures node_args { IfOk result (λ t. t.base.node_args ≡ base.node_args) }
     {
         let left = Vec::with_capacity(alloc, usize::from(many))?;
-        let chairs = chairs_for(
+        let all_args = caller_args_for(
             alloc,
             &base.others.printer.pipes,
             &base.others.printer.over,
             &mut base.others.callers,
             many,
         )?;
-        Ok(GateTable { base, chairs, left })
+        Ok(GateTable {
+            base,
+            all_args,
+            left,
+        })
     }
 }

@@ -11,11 +11,11 @@ ghost use Rattle.zre_actor.specs.declared.passes.Pipes.{Pipes as PipesValue};
 ghost use Rattle.zre_chat.specs.Chat.{Seen};
 ghost use Rattle.zre_chat.specs.Stages.{Prepared};
 ghost use Rattle.zre_chat.specs.Statuses.{IsFirst};
-ghost use Rattle.zre_chat.specs.Tables.{IsChair};
+ghost use Rattle.zre_chat.specs.Tables.{AreCallerArgs};
 ghost use Rattle.zre_gate.specs.Clients.{row};
 ghost use Rattle.zre_gate.specs.Gate.{IsGate, seen_beside};
-ghost use Rattle.zre_gate.specs.Halls.{hall_of};
-ghost use Rattle.zre_gate.specs.Tables.{IsLaid, chair_number};
+ghost use Rattle.zre_gate.specs.ClientLists.{client_list_of};
+ghost use Rattle.zre_gate.specs.Tables.{IsLaid, caller_number};
 
 use crate::client::{Answer, ClientJob};
 use crate::closer::CloserJob;
@@ -28,7 +28,7 @@ use std::sync::Wait;
 use std::thread::Threads;
 use zre_chat::Ended;
 use zre_chat::finishing::settle;
-use zre_chat::places::{Chair, NodeWork};
+use zre_chat::places::{CallerArgs, NodeWork};
 use zre_chat::starting::start_node;
 use zre_chat::table::Table as Base;
 use zre_chat::talk::{Excused, start};
@@ -62,16 +62,16 @@ impl<C: Source + Send + Drop + 'static, B: GateName + Send + 'static> AnswerLine
 
 // The clients' threads, and whether one was refused.
 #[derive(Drop)]
-struct Seated<J: Task> {
+struct ClientThreads<J: Task> {
     running: Vec<Running<J>>,
     refused: bool,
 }
 
 // Starts a client's thread, unless one was refused before: then it is excused. Says whether one was refused by now.
-fn seat_one<C, B, P, T>(
+fn start_client<C, B, P, T>(
     rt: T,
     job: ClientJob<C, B>,
-    seated: &mut Seated<ClientJob<C, B>>,
+    client_threads: &mut ClientThreads<ClientJob<C, B>>,
     spawner: &mut P,
 )
 where
@@ -80,20 +80,20 @@ where
     P: Spawner,
     T: Wait + Copy,
     // There is room for one more.
-    requires room { vec_len seated.old.running < vec_capacity seated.old.running }
-    ensures room { (vec_len seated.new.running ≤ vec_len seated.old.running + 1)
-        × (vec_capacity seated.new.running ≡ vec_capacity seated.old.running) }
+    requires room { vec_len client_threads.old.running < vec_capacity client_threads.old.running }
+    ensures room { (vec_len client_threads.new.running ≤ vec_len client_threads.old.running + 1)
+        × (vec_capacity client_threads.new.running ≡ vec_capacity client_threads.old.running) }
     // Whether a start was refused; the spawner's count rises then.
-    ensures refused { seated.new.refused ≡ true
-        → (seated.old.refused ≡ true) ⊎ Rose (P.faults spawner.old) (P.faults spawner.new) }
-    ensures counts { seated.new.refused ≡ false
-        → (seated.old.refused ≡ false) × (P.faults spawner.new ≡ P.faults spawner.old) }
+    ensures refused { client_threads.new.refused ≡ true
+        → (client_threads.old.refused ≡ true) ⊎ Rose (P.faults spawner.old) (P.faults spawner.new) }
+    ensures counts { client_threads.new.refused ≡ false
+        → (client_threads.old.refused ≡ false) × (P.faults spawner.new ≡ P.faults spawner.old) }
     ensures later { P.faults spawner.old ≤ P.faults spawner.new }
 {
-    match start(spawner, job, seated.refused) {
-        Ok(running) => seated.running.push_reserved(running),
+    match start(spawner, job, client_threads.refused) {
+        Ok(running) => client_threads.running.push_reserved(running),
         Err(job) => {
-            seated.refused = true;
+            client_threads.refused = true;
             Excused::<P::Runtime>::excuse(job, rt);
         }
     }
@@ -101,48 +101,48 @@ where
 
 // What the threads of the clients are given, in the order of the clients.
 #[derive(Drop)]
-struct ClientSeats<C: Source, B: GateName> {
-    // A chair for each.
-    chairs: VecDeque<Chair>,
+struct ClientStarts<C: Source, B: GateName> {
+    // A args_of_caller for each.
+    all_args: VecDeque<CallerArgs>,
     // Where the answer of each goes to.
     ins: VecDeque<Sender<Answer<C, B>>>,
     // The most octets that are read of each.
     limit: u64,
 }
 
-impl<C: Source + Send + Drop + 'static, B: GateName + Send + 'static> ClientSeats<C, B> {
+impl<C: Source + Send + Drop + 'static, B: GateName + Send + 'static> ClientStarts<C, B> {
     // Starts a thread for each client, in order, until one is refused.
-    fn seat_all<P, T>(
+    fn start_clients<P, T>(
         mut self,
         rt: T,
         alloc: Global,
         clients: Vec<C>,
         running: Vec<Running<ClientJob<C, B>>>,
         spawner: &mut P,
-    ) -> Seated<ClientJob<C, B>>
+    ) -> ClientThreads<ClientJob<C, B>>
     where
         P: Spawner,
         T: Wait + Copy,
         // Each client has its place and its pass, and there is room for all.
-        requires many { (length self.chairs.items ≡ length clients.items)
+        requires many { (length self.all_args.items ≡ length clients.items)
             × (length self.ins.items ≡ length clients.items) }
         requires room { (running.items ≡ []) × (length clients.items ≤ vec_capacity running) }
-        requires hall { (pipes : PipesValue) × All (IsChair pipes) self.chairs.items
-            × (B.hall ≡ Some (hall_of pipes self.limit (map chair_number self.chairs.items)
+        requires client_list { (pipes : PipesValue) × All (AreCallerArgs pipes) self.all_args.items
+            × (B.client_list ≡ Some (client_list_of pipes self.limit (map caller_number self.all_args.items)
             (map (row C.left C.taken C.faults C.refused) clients.items))) }
         // Whether a start was refused; the spawner's count rises then.
         ensures refused { result.refused ≡ true → Rose (P.faults spawner.old) (P.faults spawner.new) }
         ensures counts { result.refused ≡ false → P.faults spawner.new ≡ P.faults spawner.old }
         ensures later { P.faults spawner.old ≤ P.faults spawner.new }
     {
-        let mut seated = Seated {
+        let mut client_threads = ClientThreads {
             running,
             refused: false,
         };
         let limit = self.limit;
         let mut place: u64 = 0;
         for input in clients {
-            let Some(chair) = self.chairs.pop_front() else {
+            let Some(args_of_caller) = self.all_args.pop_front() else {
                 unreachable!();
             };
             let Some(line) = self.ins.pop_front() else {
@@ -150,9 +150,9 @@ impl<C: Source + Send + Drop + 'static, B: GateName + Send + 'static> ClientSeat
             };
             let reading = ReaderJob {
                 alloc,
-                pipes: chair.pipes,
-                over: chair.over,
-                pass: chair.pass,
+                pipes: args_of_caller.pipes,
+                over: args_of_caller.over,
+                pass: args_of_caller.pass,
                 input,
                 limit,
             };
@@ -161,10 +161,10 @@ impl<C: Source + Send + Drop + 'static, B: GateName + Send + 'static> ClientSeat
                 place,
                 line,
             };
-            seat_one(rt, job, &mut seated, spawner);
+            start_client(rt, job, &mut client_threads, spawner);
             place += 1;
         }
-        seated
+        client_threads
     }
 }
 
@@ -196,11 +196,11 @@ impl<C: Source + Send + Drop + 'static> GateTable<C> {
         // The pipes are laid, and the capture is begun where one is kept.
         requires laid { IsLaid (length clients.items) self }
         requires begun { work.keep ≡ true → R.begun work.rec ≡ true }
-        requires hall { B.hall ≡ Some (hall_of (arc_value self.base.others.printer.pipes) work.limit
-            (map chair_number self.chairs.items) (map (row C.left C.taken C.faults C.refused) clients.items)) }
+        requires client_list { B.client_list ≡ Some (client_list_of (arc_value self.base.others.printer.pipes) work.limit
+            (map caller_number self.all_args.items) (map (row C.left C.taken C.faults C.refused) clients.items)) }
         // What was read, given, done, written and kept, and the status.
         ensures gate { (g : ConfigValue) (start : StartValue) (name : Option (List ℕ)) (s : Seen) (before after : ℕ)
-            → StandsFor g [] self.base.seat.node →
+            → StandsFor g [] self.base.node_args.node →
             Prepared g start name work.keep s (seen_beside (W.told work.world) (W.faults work.world)
             (O.written out.old) (O.faults out.old) (R.kept work.rec) (R.named work.rec) (R.faults work.rec)
             (P.faults spawner.old)) →
@@ -225,10 +225,14 @@ impl<C: Source + Send + Drop + 'static> GateTable<C> {
                 rec: work.rec,
             };
         };
-        let GateTable { base, chairs, left } = self;
-        let Base { seat, others } = base;
+        let GateTable {
+            base,
+            all_args,
+            left,
+        } = self;
+        let Base { node_args, others } = base;
         let limit = work.limit;
-        let working = match start_node(spawner, seat, work) {
+        let working = match start_node(spawner, node_args, work) {
             Ok(working) => working,
             Err((world, rec)) => {
                 return Ended {
@@ -240,8 +244,12 @@ impl<C: Source + Send + Drop + 'static> GateTable<C> {
             }
         };
         let (AnswerLines { ins, outs }, running) = room;
-        let seats = ClientSeats { chairs, ins, limit };
-        let seated = seats.seat_all(rt, alloc, clients, running, spawner);
+        let client_starts = ClientStarts {
+            all_args,
+            ins,
+            limit,
+        };
+        let client_threads = client_starts.start_clients(rt, alloc, clients, running, spawner);
         let job = CloserJob {
             pipes: others.last.pipes,
             over: others.last.over,
@@ -251,8 +259,8 @@ impl<C: Source + Send + Drop + 'static> GateTable<C> {
         };
         let talk = others
             .printer
-            .hold_talk(rt, alloc, job, seated.refused, out, spawner);
-        join_all(rt, seated.running);
+            .hold_talk(rt, alloc, job, client_threads.refused, out, spawner);
+        join_all(rt, client_threads.running);
         let worked = working.join(rt);
         settle(rt, others.callers, talk, worked)
     }

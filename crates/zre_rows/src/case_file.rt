@@ -1,11 +1,11 @@
 //! The lines of a case file that ask nothing of a row's subject: names, rows, and what is to be answered.
 
+use crate::error::RowError;
 use crate::names::Names;
 use crate::report::{Place, Report};
 use crate::row::Row;
 use crate::section::CaseLine;
 use crate::text::Text;
-use crate::trouble::Trouble;
 use crate::words::Words;
 use std::alloc::Global;
 use std::mem;
@@ -131,7 +131,7 @@ impl CaseFile {
         let included = mem::replace(&mut self.included, Pairs::new(self.alloc));
         match text_of(&included, file) {
             Some(text) => self.take_names(text),
-            None => self.row.answer.fail(Trouble::UnknownFile),
+            None => self.row.answer.fail(RowError::UnknownFile),
         }
         drop(mem::replace(&mut self.included, included));
     }
@@ -140,7 +140,7 @@ impl CaseFile {
         for line in text.split(|octet| *octet == b'\n') {
             let is_line = !line.is_empty() && !line.starts_with(b"#");
             if is_line && !self.take_name(Words::of_line(self.alloc, line)) {
-                self.row.answer.fail(Trouble::UnknownKey);
+                self.row.answer.fail(RowError::UnknownKey);
             }
         }
     }
@@ -198,8 +198,8 @@ impl CaseFile {
 
     /// What is wrong with a line fails its row.
     pub fn settle_line(&mut self, place: Place<'_>) {
-        if let Some(trouble) = self.row.take_fault() {
-            self.fail(place, trouble.text());
+        if let Some(error) = self.row.take_fault() {
+            self.fail(place, error.text());
         }
     }
 

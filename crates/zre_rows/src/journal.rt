@@ -1,7 +1,7 @@
 //! Entries and scripts from the lines of captures.
 
+use crate::error::RowError;
 use crate::text::Text;
-use crate::trouble::Trouble;
 use std::alloc::Global;
 use zre_capture::{CaptureFault, CaptureReader, HEAD};
 use zre_outside::{Entries, Script, Turn};
@@ -22,8 +22,8 @@ pub fn entries_of(alloc: Global, line: &[u8], answer: &mut Text) -> Entries {
 fn feed(alloc: Global, text: &[u8], entries: &mut Entries, answer: &mut Text) {
     match CaptureReader::new(alloc).feed(text, entries) {
         Ok(()) => {}
-        Err(CaptureFault::Bad(_)) => answer.fail(Trouble::BadArgument),
-        Err(CaptureFault::OutOfMemory) => answer.fail(Trouble::OutOfMemory),
+        Err(CaptureFault::Bad(_)) => answer.fail(RowError::BadArgument),
+        Err(CaptureFault::OutOfMemory) => answer.fail(RowError::OutOfMemory),
     }
 }
 

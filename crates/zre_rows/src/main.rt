@@ -7,6 +7,7 @@
 mod acts;
 mod case_file;
 mod cases;
+mod error;
 mod journal;
 mod names;
 mod opening;
@@ -15,7 +16,6 @@ mod row;
 mod section;
 mod subject;
 mod text;
-mod trouble;
 mod wire;
 mod words;
 

@@ -1,7 +1,7 @@
 //! The names of a case file, which stand for texts.
 
+use crate::error::RowError;
 use crate::text::Text;
-use crate::trouble::Trouble;
 use std::alloc::Global;
 use zre_capture::split_once;
 use zre_values::{Octets, Pairs, take_apart};
@@ -52,7 +52,7 @@ impl Names {
                 self.push_value(name, out);
                 out.put(rest);
             }
-            None => out.fail(Trouble::BadArgument),
+            None => out.fail(RowError::BadArgument),
         }
     }
 
@@ -77,7 +77,7 @@ impl Names {
                 return out.put(text.as_slice());
             }
         }
-        out.fail(Trouble::UnknownName);
+        out.fail(RowError::UnknownName);
     }
 }
 

@@ -1,6 +1,7 @@
 //! The subjects by their names.
 
 use crate::case_file::CaseFile;
+use crate::error::RowError;
 use crate::section::Section;
 use crate::subject::captures::CaptureSubject;
 use crate::subject::command::CommandSubject;
@@ -10,7 +11,6 @@ use crate::subject::nodes::NodeSubject;
 use crate::subject::worlds::WorldSubject;
 use crate::subject::{MissingSubject, Subject, take_line, take_lines};
 use crate::text::Text;
-use crate::trouble::Trouble;
 use crate::wire::beacons::BeaconSubject;
 use crate::wire::conns::ConnSubject;
 use crate::wire::links::LinkSubject;
@@ -94,7 +94,7 @@ fn take_wire(page: &mut CaseFile, mut words: Words<'_>, section: Section<'_>) {
 fn take_plain(page: &mut CaseFile, words: Words<'_>, section: Section<'_>) {
     take_by_name!(page, words, section; "beacons" Some(BeaconSubject), "messages" Some(MessageSubject),
         "quoting" Some(QuotingSubject), "values" Some(ValueSubject), "writing" Some(WritingSubject));
-    page.row.answer.fail(Trouble::BadArgument);
+    page.row.answer.fail(RowError::BadArgument);
     take::<MissingSubject>(page, None, &words, section);
 }
 

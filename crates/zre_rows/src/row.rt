@@ -1,7 +1,7 @@
 //! The row that is under way, but for its subject.
 
+use crate::error::RowError;
 use crate::text::Text;
-use crate::trouble::Trouble;
 use std::alloc::Global;
 use zre_values::take_apart;
 
@@ -79,7 +79,7 @@ impl Row {
     }
 
     /// What is wrong with the last line.
-    pub fn take_fault(&mut self) -> Option<Trouble> {
+    pub fn take_fault(&mut self) -> Option<RowError> {
         let title = self.title.take_fault();
         let due = self.due.take_fault();
         self.answer.take_fault().or(due).or(title)

@@ -8,9 +8,9 @@ pub mod nodes;
 pub mod worlds;
 
 use crate::case_file::CaseFile;
+use crate::error::RowError;
 use crate::section::CaseLine;
 use crate::text::Text;
-use crate::trouble::Trouble;
 use crate::words::Words;
 
 /// The subject of a section. What is wrong with a step is a fault of the answer, or of the words: an argument that is
@@ -26,7 +26,7 @@ pub struct MissingSubject;
 
 impl Subject for MissingSubject {
     fn step(&mut self, _words: &mut Words<'_>, answer: &mut Text) {
-        answer.fail(Trouble::UnknownKey);
+        answer.fail(RowError::UnknownKey);
     }
 }
 
@@ -36,7 +36,7 @@ macro_rules! steps {
         $(if $words.is(stringify!($key)) {
             return $subject.$key($words, $answer);
         })+
-        $answer.fail($crate::trouble::Trouble::UnknownKey)
+        $answer.fail($crate::error::RowError::UnknownKey)
     }};
 }
 

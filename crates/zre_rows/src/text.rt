@@ -1,6 +1,6 @@
 //! A text that is written with no test at each part.
 
-use crate::trouble::Trouble;
+use crate::error::RowError;
 use hex::encode_to_slice;
 use std::alloc::Global;
 use zre_capture::push_entry;
@@ -15,7 +15,7 @@ use zre_values::{
 /// fault once.
 pub struct Text {
     pub octets: Octets,
-    fault: Option<Trouble>,
+    fault: Option<RowError>,
 }
 
 impl Drop for Text {
@@ -42,7 +42,7 @@ impl Text {
     }
 
     /// The first fault, which isn't kept any longer.
-    pub fn take_fault(&mut self) -> Option<Trouble> {
+    pub fn take_fault(&mut self) -> Option<RowError> {
         let fault = self.fault;
         self.fault = None;
         fault
@@ -51,8 +51,8 @@ impl Text {
     /// Whether there was no fault. A fault is one of the other text, too.
     pub fn is_whole(&self, other: &mut Text) -> bool {
         match self.fault {
-            Some(trouble) => {
-                other.fail(trouble);
+            Some(error) => {
+                other.fail(error);
                 false
             }
             None => true,
@@ -62,8 +62,8 @@ impl Text {
     /// The octets. A fault is one of the other text.
     pub fn into_octets(self, other: &mut Text) -> Octets {
         let Text { octets, fault } = self;
-        if let Some(trouble) = fault {
-            other.fail(trouble);
+        if let Some(error) = fault {
+            other.fail(error);
         }
         octets
     }
@@ -75,22 +75,22 @@ impl Text {
     }
 
     /// Notes a fault, unless there was one before.
-    pub fn fail(&mut self, trouble: Trouble) {
+    pub fn fail(&mut self, error: RowError) {
         if self.fault.is_none() {
-            self.fault = Some(trouble);
+            self.fault = Some(error);
         }
     }
 
     /// Notes a fault. There is nothing in place of what was asked for.
-    pub fn refuse<T>(&mut self, trouble: Trouble) -> Option<T> {
-        self.fail(trouble);
+    pub fn refuse<T>(&mut self, error: RowError) -> Option<T> {
+        self.fail(error);
         None
     }
 
     /// Notes that memory ran out, where it did.
     pub fn note(&mut self, done: Result<(), OutOfMemory>) {
         if done.is_err() {
-            self.fail(Trouble::OutOfMemory);
+            self.fail(RowError::OutOfMemory);
         }
     }
 
@@ -99,7 +99,7 @@ impl Text {
         match made {
             Ok(value) => Some(value),
             Err(OutOfMemory) => {
-                self.fail(Trouble::OutOfMemory);
+                self.fail(RowError::OutOfMemory);
                 None
             }
         }
@@ -185,7 +185,7 @@ impl Text {
         if encode_to_slice(&[octet], &mut digits).is_ok() {
             self.put(&digits);
         } else {
-            self.fail(Trouble::BadArgument);
+            self.fail(RowError::BadArgument);
         }
     }
 

@@ -1,7 +1,7 @@
 //! The arguments of a step: fields with one space between.
 
+use crate::error::RowError;
 use crate::text::Text;
-use crate::trouble::Trouble;
 use hex::decode;
 use std::alloc::Global;
 use zre_capture::{address, id, number, split_once};
@@ -15,7 +15,7 @@ pub struct Words<'a> {
     alloc: Global,
     key: &'a [u8],
     rest: &'a [u8],
-    fault: Option<Trouble>,
+    fault: Option<RowError>,
 }
 
 impl<'a> Words<'a> {
@@ -34,7 +34,7 @@ impl<'a> Words<'a> {
         Words::new(alloc, key, rest)
     }
 
-    /// The same key with these arguments.
+    /// The key with these arguments.
     pub fn with_rest<'b>(self, rest: &'b [u8]) -> Words<'b>
     where
         'a: 'b,
@@ -56,16 +56,16 @@ impl<'a> Words<'a> {
         self.rest
     }
 
-    fn fail(&mut self, trouble: Trouble) {
+    fn fail(&mut self, error: RowError) {
         if self.fault.is_none() {
-            self.fault = Some(trouble);
+            self.fault = Some(error);
         }
     }
 
     /// The next field.
     pub fn field(&mut self) -> &'a [u8] {
         if self.rest.is_empty() {
-            self.fail(Trouble::BadArgument);
+            self.fail(RowError::BadArgument);
         }
         let (field, rest) = split_once(self.rest, b' ').unwrap_or((self.rest, &[]));
         self.rest = rest;
@@ -77,7 +77,7 @@ impl<'a> Words<'a> {
         match found {
             Some(value) => value,
             None => {
-                self.fail(Trouble::BadArgument);
+                self.fail(RowError::BadArgument);
                 otherwise
             }
         }
@@ -120,7 +120,7 @@ impl<'a> Words<'a> {
         match decode(self.alloc, field) {
             Ok(octets) => Octets::from_vec(octets),
             Err(_) => {
-                self.fail(Trouble::BadArgument);
+                self.fail(RowError::BadArgument);
                 Octets::new(self.alloc)
             }
         }
@@ -153,7 +153,7 @@ impl<'a> Words<'a> {
     // An octet in two digits, and what stands after them.
     fn unescape_part(&mut self, octets: &mut Octets, part: &[u8]) {
         if part.len() < 2 {
-            self.fail(Trouble::BadArgument);
+            self.fail(RowError::BadArgument);
         } else {
             let (digits, rest) = part.split_at(2);
             let octet = self.octets_of(digits);
@@ -164,7 +164,7 @@ impl<'a> Words<'a> {
 
     fn note(&mut self, done: Result<(), OutOfMemory>) {
         if done.is_err() {
-            self.fail(Trouble::OutOfMemory);
+            self.fail(RowError::OutOfMemory);
         }
     }
 
@@ -231,7 +231,7 @@ impl<'a> Words<'a> {
         for field in rest.split(|octet| *octet == b' ') {
             let n = self.or_fail(number(field), 0);
             if numbers.push(n).is_err() {
-                self.fail(Trouble::OutOfMemory);
+                self.fail(RowError::OutOfMemory);
             }
         }
     }
@@ -239,8 +239,8 @@ impl<'a> Words<'a> {
     /// Whether each field that was taken is of its kind. Else the answer fails.
     pub fn are_good(&self, answer: &mut Text) -> bool {
         match self.fault {
-            Some(trouble) => {
-                answer.fail(trouble);
+            Some(error) => {
+                answer.fail(error);
                 false
             }
             None => true,
@@ -250,7 +250,7 @@ impl<'a> Words<'a> {
     /// Fails the answer where a field that was taken isn't of its kind, or one is left.
     pub fn end(&self, answer: &mut Text) {
         if self.are_good(answer) && !self.rest.is_empty() {
-            answer.fail(Trouble::BadArgument);
+            answer.fail(RowError::BadArgument);
         }
     }
 }

@@ -48,8 +48,10 @@ pub fn take_all<R: Wait + Copy>(
     pipes: &Pipes,
     mut taker: TakerPass,
 ) -> (TakerPass, u64, Ending)
+    // What a caller knows.
     requires pipes { IsTakerOf pipes.now taker }
     requires open { last_of taker ≡ None }
+    // What the pass knows after the stop.
     ensures pipes { IsTakerOf pipes.now result.0 }
     ensures last { IsSome (last_of result.0) }
 {
@@ -84,8 +86,10 @@ fn regroup<R: Wait + Copy>(
 
 /// Both passes are given back.
 pub fn given_back(mut back: CallerPasses, first: CallerPass, second: CallerPass) -> CallerPasses
+    // What a caller knows.
     requires new { (ended first ≡ []) × (ended second ≡ []) }
     requires back { (given_of back ≡ []) × (1 < room_of back) }
+    // The pipes with the pass back.
     ensures pipes { (pipes : Pipes) → IsCallerOf pipes first → IsCallerOf pipes second →
         AreCallersOf pipes (given_of result) }
     ensures many { how_many (given_of result) ≡ 2 }

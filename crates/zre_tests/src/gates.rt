@@ -363,7 +363,7 @@ impl Desk for PatientDesk {
 }
 
 /// A client without a line, whose end waits for the sign, and one that whispers.
-fn hall_of(alloc: Global, sign: &Sign) -> Result<PatientDesk, OutOfMemory> {
+fn client_list_of(alloc: Global, sign: &Sign) -> Result<PatientDesk, OutOfMemory> {
     let mut silent = Patient::new(alloc, b"", b"")?;
     silent.wait_for(sign)?;
     let mut clients = VecDeque::new(alloc);
@@ -378,7 +378,7 @@ fn held_beside<R: Threads + Wait + Send + Copy + 'static>(
     alloc: Global,
 ) -> Result<(Status, Showing, Option<u64>), OutOfMemory> {
     let sign = sign_of(alloc)?;
-    let desk = hall_of(alloc, &sign)?;
+    let desk = client_list_of(alloc, &sign)?;
     let mut out = Showing::new(alloc, NO_PEER, sign);
     let case = Case { looks: 2, ..PLAIN };
     let ended = hold(rt, alloc, &case, desk, &mut out)?;

@@ -192,8 +192,10 @@ fn talk_and_take<R: Threads + Wait + Send + Copy>(
     passes: Passes,
     groups: (Octets, Octets),
 ) -> (CallerPasses, (TakerPass, u64, Ending))
+    // What a caller knows.
     requires callers { AreNew pipes.now passes.callers.first passes.callers.second passes.callers.back }
     requires taker { IsTakerOf pipes.now passes.taker × (last_of passes.taker ≡ None) }
+    // The pipes, and what went through them.
     ensures pipes { AreCallersOf pipes.now (given_of result.0) × IsTakerOf pipes.now result.1.0 }
     ensures many { how_many (given_of result.0) ≡ 2 }
     ensures last { IsSome (last_of result.1.0) }

@@ -14,7 +14,9 @@ impl Pipes {
     // A command, or nothing where the pipe was empty at one moment of the call.
     pub(crate) fn pop<R: Wait + Copy>(&self, rt: R, pass: ActorPass) -> (ActorPass, Option<Command>)
         requires { IsActorOf self.now pass }
+        // The pass.
         ensures pipes { IsActorOf self.now result.0 }
+        // What was popped.
         ensures popped { IsPopped pass result.1 result.0 }
         ensures unused { unused_by result.0 ≡ unused_by pass }
         ensures events { (raised_by result.0 ≡ raised_by pass) × (ending_of result.0 ≡ ending_of pass) }
@@ -38,8 +40,10 @@ impl Pipes {
 
     // Pushes an event, or Last.
     pub(crate) fn push<R: Wait + Copy>(&self, rt: R, pass: ActorPass, message: Told) -> ActorPass
+        // What a caller knows.
         requires pipes { IsActorOf self.now pass }
         requires open { ending_of pass ≡ None }
+        // What the pass knows after the event was raised.
         ensures pipes { IsActorOf self.now result }
         ensures told { channel.view result.events ≡ sent (channel.view pass.events) message }
         ensures commands { (popped_by result ≡ popped_by pass) × (result.empties ≡ pass.empties)

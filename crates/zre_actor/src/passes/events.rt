@@ -13,8 +13,10 @@ use std::sync::Wait;
 impl Pipes {
     /// The next event, or Last. It waits until there is one.
     pub fn take<R: Wait + Copy>(&self, rt: R, pass: TakerPass) -> (TakerPass, Told)
+        // What a caller knows.
         requires pipes { IsTakerOf self.now pass }
         requires open { last_of pass ≡ None }
+        // What the pass knows after the event was taken.
         ensures pipes { IsTakerOf self.now result.0 }
         ensures told { IsTold pass result.1 result.0 }
     {
@@ -30,8 +32,10 @@ impl Pipes {
     /// The next event, or Last, or nothing where the pipe was empty at one moment of the call. So a caller can do
     /// what it put off, such as to write, before it waits in [`Pipes::take`].
     pub fn try_take<R: Wait + Copy>(&self, rt: R, pass: TakerPass) -> (TakerPass, Option<Told>)
+        // What a caller knows.
         requires pipes { IsTakerOf self.now pass }
         requires open { last_of pass ≡ None }
+        // What the pass knows after the event was taken, if there was one.
         ensures pipes { IsTakerOf self.now result.0 }
         ensures told { MatchOption result.1 ((taken_by result.0 ≡ taken_by pass) × (last_of result.0 ≡ last_of pass))
             (λ told. IsTold pass told result.0) }

@@ -25,16 +25,19 @@ impl Pipes {
         callers: CallerPasses,
         taker: TakerPass,
     ) -> Finished
+        // All passes are back.
         requires pipes { IsActorOf self.now actor × AreCallersOf self.now (given_of callers)
             × IsTakerOf self.now taker }
         requires back { AllBack actor (given_of callers) }
         requires last { IsSome (last_of taker) }
+        // The commands.
         ensures put { All (λ p. (n : ℕ) → 1 ≤ times n (live_of p)
             → IsPrefix (under n (popped_by actor)) (under n (put_by p))) (given_of callers) }
         ensures fronts { (n : ℕ) → IsPrefix (under n (popped_by actor)) (under n (puts_of (given_of callers))) }
         ensures left { result.left + length (popped_by actor) ≡ length (puts_of (given_of callers)) }
         ensures ended { (before : List Placed) (last : Placed) (n : ℕ) → popped_by actor ≡ before ++ last ∷ []
             → 1 ≤ times n last.ended → under n (popped_by actor) ≡ under n (puts_of (given_of callers)) }
+        // The events.
         ensures taken { (taken_by taker ≡ raised_by actor) × (last_of taker ≡ ending_of actor) }
     {
         let ActorPass {

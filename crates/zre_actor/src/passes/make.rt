@@ -22,10 +22,13 @@ const ROOM: usize = 1024;
 impl Pipes {
     /// The pipes, and the passes of the actor, of the callers and of the taker.
     pub fn make(alloc: Global, callers: u8) -> Result<Made, OutOfMemory>
+        // There are callers, and not too many.
         requires { (1 ≤ callers) × (callers ≤ 16) }
+        // Whose the passes are.
         ensures pipes { IfOk result (λ m. IsActorOf m.pipes m.actor × IsTakerOf m.pipes m.taker
             × AreCallersOf m.pipes (fresh_of m.callers)) }
         ensures numbers { IfOk result (λ m. numbers_of (fresh_of m.callers) ≡ row 1 callers) }
+        // Nothing went through the pipes yet.
         ensures new { IfOk result (λ m. All IsNew (fresh_of m.callers)) }
         ensures unused { IfOk result (λ m. length (unused_by m.actor) + callers ≡ 16) }
         ensures given { IfOk result (λ m. (given_of m.callers ≡ []) × (callers ≤ room_of m.callers)) }
@@ -76,12 +79,15 @@ fn new_callers(
     commands: &CommandQueue,
     actor: &mut Pass<Command, CommandView>,
 ) -> Result<CallerPasses, OutOfMemory>
+    // What a caller knows.
     requires few { count ≤ 16 }
     requires queue { IsPassOf commands.now actor.old }
     requires first { view actor.old ≡ first }
+    // Whose the passes are.
     ensures queue { OnOk result (IsPassOf commands.now actor.new) }
     ensures actor { OnOk result (view actor.new ≡ known true [] [] [] (row (1 + count) (16 - count)) []) }
     ensures callers { IfOk result (λ c. All (λ p. IsPassOf commands.now p.commands) (fresh_of c)) }
+    // Their numbers, and that nothing was put under them.
     ensures numbers { IfOk result (λ c. numbers_of (fresh_of c) ≡ row 1 count) }
     ensures new { IfOk result (λ c. All IsNew (fresh_of c)) }
     ensures given { IfOk result (λ c. (given_of c ≡ []) × (count ≤ room_of c)) }
@@ -100,8 +106,10 @@ fn new_callers(
 
 // A caller with the first unused number.
 fn new_caller(commands: &CommandQueue, actor: &mut Pass<Command, CommandView>) -> CallerPass
+    // What a caller knows.
     requires queue { IsPassOf commands.now actor.old }
     requires unused { 1 ≤ length (view actor.old).unused }
+    // Whose the pass is.
     ensures queue { IsSamePass actor.old actor.new × IsPassOf commands.now result.commands }
     ensures actor { view actor.new ≡ without_one (view actor.old) }
     ensures caller { view result.commands ≡ one_caller (view actor.old) }

@@ -17,10 +17,13 @@ impl Pipes {
         pass: CallerPass,
         command: Command,
     ) -> Result<CallerPass, Full>
+        // What a caller knows.
         requires { IsCallerOf self.now pass }
+        // The pass.
         ensures pipes { MatchResult result (λ p. IsCallerOf self.now p) (λ f. IsCallerOf self.now f.pass) }
         ensures number { MatchResult result (λ p. number p ≡ number pass) (λ f. number f.pass ≡ number pass) }
         ensures ended { MatchResult result (λ p. ended p ≡ ended pass) (λ f. ended f.pass ≡ ended pass) }
+        // What is put, and when the pipe is full.
         ensures put { MatchResult result (λ p. put_by p ≡ put_by pass
             ++ placed (number pass) (ended pass) command ∷ []) (λ f. put_by f.pass ≡ put_by pass) }
         ensures command { IfErr result (λ f. f.command ≡ command) }
@@ -49,10 +52,13 @@ impl Pipes {
     /// more, and what was put under it comes before all that is put with this pass from now on. It waits for nobody: it
     /// asks nothing of the runtime.
     pub fn absorb<R: Copy>(&self, _rt: R, pass: CallerPass, other: CallerPass) -> CallerPass
+        // What a caller knows.
         requires { IsCallerOf self.now pass × IsCallerOf self.now other }
+        // The pass.
         ensures pipes { IsCallerOf self.now result }
         ensures number { number result ≡ number pass }
         ensures ended { ended result ≡ ended pass ++ number other ∷ ended other }
+        // What it answers for from now on.
         ensures put { put_by result ≡ put_by pass ++ put_by other }
         ensures fulls { result.fulls ≡ pass.fulls }
     {

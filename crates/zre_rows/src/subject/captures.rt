@@ -1,8 +1,8 @@
 //! Captures: texts that are read in pieces, and the lines of their entries.
 
+use crate::error::RowError;
 use crate::subject::{Subject, steps};
 use crate::text::Text;
-use crate::trouble::Trouble;
 use crate::words::Words;
 use std::alloc::Global;
 use zre_capture::{BadCapture, CaptureFault, CaptureReader};
@@ -111,7 +111,7 @@ fn push_place(out: &mut Text, read: Result<Option<BadCapture>, OutOfMemory>) {
             out.count(b"", column);
         }
         Ok(None) => out.put(b"whole"),
-        Err(OutOfMemory) => out.fail(Trouble::OutOfMemory),
+        Err(OutOfMemory) => out.fail(RowError::OutOfMemory),
     }
     out.end();
 }

@@ -5,10 +5,10 @@ mod cut;
 mod narrow;
 mod telling;
 
+use crate::error::RowError;
 use crate::journal::script_of;
 use crate::subject::{Subject, steps};
 use crate::text::Text;
-use crate::trouble::Trouble;
 use crate::words::Words;
 use calls::{Ran, Stand, call, call_plain};
 use cut::Cut;
@@ -135,7 +135,7 @@ impl CommandSubject {
             self.input.clear();
             self.input.add(&self.kept);
         } else {
-            answer.fail(Trouble::BadArgument);
+            answer.fail(RowError::BadArgument);
         }
     }
 
@@ -243,7 +243,7 @@ impl CommandSubject {
                     self.note_given(given);
                     push_outcome(answer, out.written(), status);
                 }
-                None => answer.fail(Trouble::BadArgument),
+                None => answer.fail(RowError::BadArgument),
             }
         }
     }
@@ -296,7 +296,7 @@ impl CommandSubject {
 
     fn ask(&mut self, due: DueRun, answer: &mut Text) {
         if self.due.is_some() {
-            answer.fail(Trouble::BadArgument);
+            answer.fail(RowError::BadArgument);
         }
         self.due = Some(due);
     }
@@ -335,7 +335,7 @@ fn copy_of(alloc: Global, text: &Text, answer: &mut Text) -> Octets {
     match Octets::copy(alloc, text.as_slice()) {
         Ok(copied) => copied,
         Err(OutOfMemory) => {
-            answer.fail(Trouble::OutOfMemory);
+            answer.fail(RowError::OutOfMemory);
             Octets::new(alloc)
         }
     }

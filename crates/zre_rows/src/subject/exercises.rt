@@ -1,8 +1,8 @@
 //! The entries of the exercise.
 
+use crate::error::RowError;
 use crate::subject::{Subject, steps};
 use crate::text::Text;
-use crate::trouble::Trouble;
 use crate::words::Words;
 use zre_capture::Exercise;
 
@@ -24,7 +24,7 @@ impl ExerciseSubject {
         let peers = words.number();
         let messages = words.number();
         if peers < 1 || peers > 256 || messages > 1000000 {
-            answer.refuse(Trouble::BadArgument)
+            answer.refuse(RowError::BadArgument)
         } else {
             let exercise = Exercise::new(words.alloc(), seed, peers as u16, messages as u32);
             Some(ExerciseSubject { exercise })

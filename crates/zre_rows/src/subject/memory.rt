@@ -1,8 +1,8 @@
 //! The objects in memory that stand for the outside: where octets come from and go to, and where a capture is kept.
 
+use crate::error::RowError;
 use crate::subject::{Subject, steps};
 use crate::text::Text;
-use crate::trouble::Trouble;
 use crate::words::Words;
 use zre_outside::{
     MemRecorder, MemSink, MemSource, NextFault, Recorder, Sink, Source, SureRecorder, SureSink,
@@ -66,7 +66,7 @@ impl MemorySubject {
         let size = (words.number().min(65536) as usize).max(1);
         match Vec::from_elem(words.alloc(), 0u8, size) {
             Ok(mut room) => self.read_into(&mut room, answer),
-            Err(_) => answer.fail(Trouble::OutOfMemory),
+            Err(_) => answer.fail(RowError::OutOfMemory),
         }
     }
 
@@ -119,6 +119,6 @@ fn push_outcome(outcome: Result<(), NextFault>, answer: &mut Text) {
     match outcome {
         Ok(()) => answer.line(b"done"),
         Err(NextFault::Failed) => answer.line(b"failed"),
-        Err(NextFault::OutOfMemory) => answer.fail(Trouble::OutOfMemory),
+        Err(NextFault::OutOfMemory) => answer.fail(RowError::OutOfMemory),
     }
 }

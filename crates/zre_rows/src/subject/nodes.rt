@@ -1,10 +1,10 @@
 //! A node, entry by entry, and what it is asked between them.
 
 use crate::acts::push_act;
+use crate::error::RowError;
 use crate::journal::entries_of;
 use crate::subject::{Subject, steps};
 use crate::text::Text;
-use crate::trouble::Trouble;
 use crate::words::Words;
 use std::alloc::Global;
 use zre_app::{Command, Plain, command_of};
@@ -39,18 +39,18 @@ fn config_of(alloc: Global, words: &Frames) -> Result<Option<Config>, OutOfMemor
 fn node_of(alloc: Global, words: &Frames, answer: &mut Text) -> Option<Node> {
     match config_of(alloc, words) {
         Ok(Some(config)) => make_node(alloc, config, answer),
-        Ok(None) => answer.refuse(Trouble::BadArgument),
-        Err(OutOfMemory) => answer.refuse(Trouble::OutOfMemory),
+        Ok(None) => answer.refuse(RowError::BadArgument),
+        Err(OutOfMemory) => answer.refuse(RowError::OutOfMemory),
     }
 }
 
 fn make_node(alloc: Global, config: Config, answer: &mut Text) -> Option<Node> {
     if !config.valid() {
-        return answer.refuse(Trouble::BadArgument);
+        return answer.refuse(RowError::BadArgument);
     }
     match Node::new(alloc, config) {
         Ok(node) => Some(node),
-        Err(_) => answer.refuse(Trouble::OutOfMemory),
+        Err(_) => answer.refuse(RowError::OutOfMemory),
     }
 }
 
@@ -83,7 +83,7 @@ impl NodeSubject {
         for entry in entries_of(words.alloc(), words.take_rest(), answer).into_vec() {
             match next(&mut self.node, entry) {
                 Some(step) => push_step(step, answer, &mut self.acts),
-                None => answer.fail(Trouble::OutOfMemory),
+                None => answer.fail(RowError::OutOfMemory),
             }
         }
     }

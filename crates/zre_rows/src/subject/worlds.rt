@@ -1,9 +1,9 @@
 //! The worlds in memory: scripts that are played.
 
+use crate::error::RowError;
 use crate::journal::script_of;
 use crate::subject::{Subject, steps};
 use crate::text::Text;
-use crate::trouble::Trouble;
 use crate::words::Words;
 use std::alloc::Global;
 use std::mem;
@@ -110,6 +110,6 @@ fn push_told(turn: Result<Turn, NextFault>, answer: &mut Text) {
         Ok(Turn::Entry(entry)) => answer.entry(&entry),
         Ok(Turn::Look) => answer.line(b"look"),
         Err(NextFault::Failed) => answer.line(b"failed"),
-        Err(NextFault::OutOfMemory) => answer.fail(Trouble::OutOfMemory),
+        Err(NextFault::OutOfMemory) => answer.fail(RowError::OutOfMemory),
     }
 }

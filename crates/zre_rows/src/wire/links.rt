@@ -1,8 +1,8 @@
 //! Outgoing connections.
 
+use crate::error::RowError;
 use crate::subject::{Subject, steps};
 use crate::text::Text;
-use crate::trouble::Trouble;
 use crate::wire::texts::push_fault;
 use crate::words::Words;
 use std::alloc::Global;
@@ -31,7 +31,7 @@ fn push_pushed(answer: &mut Text, pushed: Result<(), PushFault>) {
     match pushed {
         Ok(()) => {}
         Err(PushFault::Slow { unsent, size }) => push_slow(answer, unsent, size),
-        Err(PushFault::OutOfMemory) => answer.fail(Trouble::OutOfMemory),
+        Err(PushFault::OutOfMemory) => answer.fail(RowError::OutOfMemory),
     }
 }
 
@@ -40,7 +40,7 @@ fn push_heard(answer: &mut Text, heard: Result<(), ReplyFault>) {
         Ok(()) => {}
         Err(ReplyFault::Zmtp(fault)) => push_fault(answer, FeedFault::Zmtp(fault)),
         Err(ReplyFault::Slow { unsent, size }) => push_slow(answer, unsent, size),
-        Err(ReplyFault::OutOfMemory) => answer.fail(Trouble::OutOfMemory),
+        Err(ReplyFault::OutOfMemory) => answer.fail(RowError::OutOfMemory),
     }
 }
 
@@ -49,7 +49,7 @@ fn push(link: &mut Link, message: &mut Message, answer: &mut Text) {
     if message.fits() {
         push_pushed(answer, link.push(&mut message.body));
     } else {
-        answer.fail(Trouble::BadArgument);
+        answer.fail(RowError::BadArgument);
     }
 }
 
@@ -58,7 +58,7 @@ fn shout(link: &mut Link, group: &[u8], tail: &Tail, answer: &mut Text) {
     if group.len() < 256 {
         push_pushed(answer, link.push_shout(group, tail));
     } else {
-        answer.fail(Trouble::BadArgument);
+        answer.fail(RowError::BadArgument);
     }
 }
 
@@ -99,7 +99,7 @@ impl LinkSubject {
     pub fn make(words: &mut Words<'_>, answer: &mut Text) -> Option<Self> {
         match Link::new(words.alloc(), words.id()) {
             Ok(link) => Some(LinkSubject { link }),
-            Err(_) => answer.refuse(Trouble::OutOfMemory),
+            Err(_) => answer.refuse(RowError::OutOfMemory),
         }
     }
 
@@ -107,7 +107,7 @@ impl LinkSubject {
     fn push(&mut self, words: &mut Words<'_>, answer: &mut Text) {
         match Message::from_frames(words.alloc(), words.frames()) {
             Ok(mut message) => push(&mut self.link, &mut message, answer),
-            Err(_) => answer.fail(Trouble::BadArgument),
+            Err(_) => answer.fail(RowError::BadArgument),
         }
     }
 
@@ -115,7 +115,7 @@ impl LinkSubject {
     fn whisper(&mut self, words: &mut Words<'_>, answer: &mut Text) {
         let count = words.number();
         if count > CONTENT {
-            answer.fail(Trouble::BadArgument);
+            answer.fail(RowError::BadArgument);
         } else {
             self.whisper_zeros(words.alloc(), count as usize, answer);
         }
@@ -127,7 +127,7 @@ impl LinkSubject {
                 let mut message = whisper_of(alloc, Octets::from_vec(zeros));
                 push(&mut self.link, &mut message, answer);
             }
-            Err(_) => answer.fail(Trouble::OutOfMemory),
+            Err(_) => answer.fail(RowError::OutOfMemory),
         }
     }
 
@@ -136,7 +136,7 @@ impl LinkSubject {
         let group = words.octets();
         match Tail::of(words.alloc(), &words.frames()) {
             Ok(tail) => shout(&mut self.link, group.as_slice(), &tail, answer),
-            Err(_) => answer.fail(Trouble::OutOfMemory),
+            Err(_) => answer.fail(RowError::OutOfMemory),
         }
     }
 

@@ -1,8 +1,8 @@
 //! Lists of octets, of frames, of pairs and of keys.
 
+use crate::error::RowError;
 use crate::subject::{Subject, steps};
 use crate::text::Text;
-use crate::trouble::Trouble;
 use crate::wire::texts::push_keys;
 use crate::words::Words;
 use zre_values::{Frames, Keys, Octets, Pairs, take_apart};
@@ -66,7 +66,7 @@ impl ListSubject {
         if i < self.frames.len() as u64 {
             answer.note(self.frames.append_at(i as usize, octets.as_slice()));
         } else {
-            answer.fail(Trouble::BadArgument);
+            answer.fail(RowError::BadArgument);
         }
     }
 
@@ -77,7 +77,7 @@ impl ListSubject {
             answer.quoted(self.frames.remove(i as usize).as_slice());
             answer.end();
         } else {
-            answer.fail(Trouble::BadArgument);
+            answer.fail(RowError::BadArgument);
         }
     }
 

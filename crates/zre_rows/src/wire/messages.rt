@@ -1,8 +1,8 @@
 //! Messages and their frames, read and written again, one message at a time.
 
+use crate::error::RowError;
 use crate::subject::{Subject, steps};
 use crate::text::Text;
-use crate::trouble::Trouble;
 use crate::wire::body::push_body;
 use crate::words::Words;
 use std::alloc::Global;
@@ -28,7 +28,7 @@ fn push_bad(out: &mut Text, bad: Bad) {
 fn push_fault(out: &mut Text, fault: ReadFault) {
     match fault {
         ReadFault::Bad(bad) => push_bad(out, bad),
-        ReadFault::OutOfMemory => out.fail(Trouble::OutOfMemory),
+        ReadFault::OutOfMemory => out.fail(RowError::OutOfMemory),
     }
 }
 
@@ -152,7 +152,7 @@ impl MessageSubject {
         let alloc = words.alloc();
         match Message::from_frames(alloc, words.frames()) {
             Ok(message) => push_octets_of(alloc, answer, &message, true),
-            Err(_) => answer.fail(Trouble::BadArgument),
+            Err(_) => answer.fail(RowError::BadArgument),
         }
     }
 

@@ -1,8 +1,8 @@
 //! The groups that a node is in.
 
+use crate::error::RowError;
 use crate::subject::{Subject, steps};
 use crate::text::Text;
-use crate::trouble::Trouble;
 use crate::words::Words;
 use zre_group::{JoinFault, NoGroup, Own};
 
@@ -18,7 +18,7 @@ fn push_joined(answer: &mut Text, joined: Result<u8, JoinFault>) {
         Ok(status) => answer.number(u64::from(status)),
         Err(JoinFault::Same) => answer.put(b"same"),
         Err(JoinFault::Limit) => answer.put(b"limit"),
-        Err(JoinFault::OutOfMemory) => answer.fail(Trouble::OutOfMemory),
+        Err(JoinFault::OutOfMemory) => answer.fail(RowError::OutOfMemory),
     }
     answer.end();
 }
@@ -42,7 +42,7 @@ impl OwnGroupSubject {
     fn join(&mut self, words: &mut Words<'_>, answer: &mut Text) {
         let group = words.octets();
         if group.len() > 255 {
-            answer.fail(Trouble::BadArgument);
+            answer.fail(RowError::BadArgument);
         } else {
             push_joined(answer, self.own.join(group.as_slice()));
         }

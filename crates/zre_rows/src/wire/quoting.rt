@@ -1,8 +1,8 @@
 //! The quoted texts of octets.
 
+use crate::error::RowError;
 use crate::subject::{Subject, steps};
 use crate::text::Text;
-use crate::trouble::Trouble;
 use crate::words::Words;
 use zre_values::{Octets, OutOfMemory, is_quoted, quote, unquote};
 
@@ -39,7 +39,7 @@ fn push_unquoted(
     match unquoted {
         Ok(Some(octets)) => answer.hex(octets.as_slice()),
         Ok(None) => answer.put(b"none"),
-        Err(OutOfMemory) => answer.fail(Trouble::OutOfMemory),
+        Err(OutOfMemory) => answer.fail(RowError::OutOfMemory),
     }
     if matches!(unquoted, Ok(Some(_))) != is_quoted {
         answer.put(b" but unquote and is_quoted differ");

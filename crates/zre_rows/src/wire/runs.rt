@@ -2,9 +2,9 @@
 
 ghost use Rattle.std.specs.Prelude.{◌≡◌, false, IsSome};
 
+use crate::error::RowError;
 use crate::subject::{Subject, steps};
 use crate::text::Text;
-use crate::trouble::Trouble;
 use crate::words::Words;
 use std::alloc::Global;
 use zre_msg::{LentMessage, Message};
@@ -32,7 +32,7 @@ fn push_fault(out: &mut Text, fault: RunFault) {
             out.count(b"fault Broken", u64::from(due));
             out.count(b"", u64::from(got));
         }
-        RunFault::OutOfMemory => out.fail(Trouble::OutOfMemory),
+        RunFault::OutOfMemory => out.fail(RowError::OutOfMemory),
     }
     out.end();
 }
@@ -46,7 +46,7 @@ fn message_of(alloc: Global, frames: &Frames, spent: bool, text: &mut Text) -> O
             return Some(message);
         }
     }
-    text.fail(Trouble::BadArgument);
+    text.fail(RowError::BadArgument);
     None
 }
 
@@ -60,7 +60,7 @@ fn tell_events(alloc: Global, run: &mut Run, frames: &Frames, text: &mut Text) {
     }
 }
 
-// The same, with a message after HELLO as it lies in its frames.
+// Tells the lines of a message after HELLO as it lies in its frames.
 fn tell_lines(alloc: Global, run: &mut Teller, frames: &Frames, text: &mut Text) {
     let is_told = match Message::see(frames) {
         Ok(Some(lent)) => tell_lent(run, &lent, text),

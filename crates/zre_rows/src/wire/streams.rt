@@ -1,8 +1,8 @@
 //! Streams of ZMTP, in any pieces.
 
+use crate::error::RowError;
 use crate::subject::{Subject, steps};
 use crate::text::Text;
-use crate::trouble::Trouble;
 use crate::wire::texts::{push_fault, push_fed};
 use crate::words::Words;
 use std::alloc::Global;
@@ -97,7 +97,7 @@ fn want_of(kind: &[u8], words: &mut Words<'_>, answer: &mut Text) -> Option<Want
     } else if kind == b"any".as_slice() {
         Some(Want::Any)
     } else {
-        answer.refuse(Trouble::BadArgument)
+        answer.refuse(RowError::BadArgument)
     }
 }
 
@@ -161,7 +161,7 @@ impl StreamSubject {
 
     fn feed_pieces(&mut self, pieces: &Frames, answer: &mut Text) {
         if self.reader.spent() {
-            answer.fail(Trouble::BadArgument);
+            answer.fail(RowError::BadArgument);
             return;
         }
         self.items.clear();

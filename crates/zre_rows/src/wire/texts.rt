@@ -1,7 +1,7 @@
 //! Texts that several subjects answer.
 
+use crate::error::RowError;
 use crate::text::Text;
-use crate::trouble::Trouble;
 use zre_peer::zmtp_name;
 use zre_values::Keys;
 use zre_zmtp::{FeedFault, ZmtpFault};
@@ -14,7 +14,7 @@ pub fn push_fault(answer: &mut Text, fault: FeedFault) {
             answer.count(zmtp_name(why), place);
             answer.end();
         }
-        FeedFault::OutOfMemory => answer.fail(Trouble::OutOfMemory),
+        FeedFault::OutOfMemory => answer.fail(RowError::OutOfMemory),
     }
 }
 

@@ -2,9 +2,9 @@
 
 ghost use Rattle.zre_timers.specs.Moments.{NoneAfter};
 
+use crate::error::RowError;
 use crate::subject::{Subject, steps};
 use crate::text::Text;
-use crate::trouble::Trouble;
 use crate::wire::texts::push_keys;
 use crate::words::Words;
 use std::alloc::Global;
@@ -34,11 +34,11 @@ fn change(timers: &mut Timers, now: u64, touch: Touch, answer: &mut Text)
         return;
     };
     if at > now {
-        answer.fail(Trouble::BadArgument);
+        answer.fail(RowError::BadArgument);
         return;
     }
     let Ok(()) = timers.touch(touch.key, at) else {
-        answer.fail(Trouble::OutOfMemory);
+        answer.fail(RowError::OutOfMemory);
         return;
     };
 }
@@ -72,7 +72,7 @@ impl Subject for TimerSubject {
 impl TimerSubject {
     fn push(&mut self, touch: Touch, answer: &mut Text) {
         if self.touches.push(touch).is_err() {
-            answer.fail(Trouble::OutOfMemory);
+            answer.fail(RowError::OutOfMemory);
         }
     }
 
@@ -102,7 +102,7 @@ impl TimerSubject {
         let evasive = words.number();
         let expired = words.number();
         if evasive > expired {
-            answer.fail(Trouble::BadArgument);
+            answer.fail(RowError::BadArgument);
         } else {
             let timers = changed(words.alloc(), self.touches.as_slice(), now, answer);
             push_due(answer, timers.due(now, evasive, expired));

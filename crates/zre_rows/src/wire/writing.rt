@@ -1,8 +1,8 @@
 //! What is written of a stream.
 
+use crate::error::RowError;
 use crate::subject::{Subject, steps};
 use crate::text::Text;
-use crate::trouble::Trouble;
 use crate::words::Words;
 use zre_values::{Octets, OutOfMemory};
 use zre_zmtp::{SocketType, context_of, greeting, pong, ready, write_message};
@@ -60,7 +60,7 @@ impl WritingSubject {
     fn message(&self, words: &mut Words<'_>, answer: &mut Text) {
         let frames = words.frames();
         if frames.len() < 1 {
-            answer.fail(Trouble::BadArgument);
+            answer.fail(RowError::BadArgument);
         } else {
             push_written(answer, write_message(words.alloc(), &frames));
         }

@@ -2,9 +2,9 @@ use Rattle.std.proofs.Common.{◌∙◌, true, false, ap}
 use Rattle.std.specs.Prelude.{Err}
 use mathlib.Core.Logic.{inl}
 use Rattle.zre_commands.specs.declared.pump.status.Status.TheVariants.{WorldFault}
-use Rattle.zre_chat.proofs.Early.{refused_early}
+use Rattle.zre_chat.proofs.PreparingFailed.{refused_early}
 use Rattle.zre_chat.proofs.First.{fault_yields, world_unread}
-use Rattle.zre_chat.proofs.Whole.{none_started}
+use Rattle.zre_chat.proofs.ChatOfParts.{none_started}
 use Rattle.zre_chat.proofs.entering.enter.Goals as goal
 
 pub returns-in-Err-clause-refused : goal.returns-in-Err-clause-refused

@@ -3,7 +3,7 @@ use Rattle.std.specs.Prelude.{IfSome, Err}
 use Rattle.std.specs.Str.{is_utf8}
 use Rattle.std.proofs.lemmas.Str.{IsUtf8-from_is_utf8}
 use Rattle.zre_commands.specs.declared.pump.status.Status.TheVariants.{WriteFault}
-use Rattle.zre_chat.proofs.Early.{refused_early}
+use Rattle.zre_chat.proofs.PreparingFailed.{refused_early}
 use Rattle.zre_chat.proofs.First.{fault_yields, write_unread}
 use Rattle.zre_chat.proofs.keeping.begin.Goals as goal
 

@@ -7,4 +7,4 @@ use Rattle.zre_gate.proofs.client.leave_client.Goals as goal
 pub invariant_of-answer : goal.invariant_of-answer
 invariant_of-answer g c =
     let s = g.C.Source in let job = c.args.job in let x = job.reading in
-    rw (c.leave-done.ensures) (record { known = ∥∥₁_map job.known (left_alone g.B.GateName.hall (arc_value x.pipes) x.limit job.place x.pass (row s.left s.taken s.faults s.refused x.input)) })
+    rw (c.leave-done.ensures) (record { known = ∥∥₁_map job.known (left_alone g.B.GateName.client_list (arc_value x.pipes) x.limit job.place x.pass (row s.left s.taken s.faults s.refused x.input)) })

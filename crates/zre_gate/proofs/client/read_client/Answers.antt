@@ -8,6 +8,6 @@ pub invariant_of-answer : goal.invariant_of-answer
 invariant_of-answer g c =
     let s = g.C.Source in let job = c.args.job in let x = job.reading in let read = c.read-done in let done = read.result.0 in
     record {
-      known = ∥∥₁_map job.known (λ k. answered g.B.GateName.hall (arc_value x.pipes) x.limit job.place x.pass done.pass (row s.left s.taken s.faults s.refused x.input) (row s.left s.taken s.faults s.refused done.input) done.end
+      known = ∥∥₁_map job.known (λ k. answered g.B.GateName.client_list (arc_value x.pipes) x.limit job.place x.pass done.pass (row s.left s.taken s.faults s.refused x.input) (row s.left s.taken s.faults s.refused done.input) done.end
           k read.ensures.pipes.1 read.ensures.read read.ensures.later read.ensures.refused);
     }

@@ -3,7 +3,7 @@ use mathlib.Core.Logic.{inl}
 use Rattle.zre_chat.specs.Chat.{seen}
 use Rattle.zre_chat.proofs.Callers.{two_apart}
 use Rattle.zre_chat.proofs.First.{yields_since}
-use Rattle.zre_chat.proofs.Whole.{prepared, unprepared, there}
+use Rattle.zre_chat.proofs.ChatOfParts.{prepared, unprepared, there}
 use Rattle.zre_chat.proofs.chat.Chat.run.Goals as goal
 
 pub returns-in-Err-clause-chat : goal.returns-in-Err-clause-chat

@@ -15,11 +15,11 @@ use Rattle.zre_commands.specs.declared.pump.status.Status.TheVariants.{NoThread}
 use Rattle.zre_chat.specs.Chat.{IsChat, Seen, seen}
 use Rattle.zre_console.specs.reader.Reading.{EndsByRefusal}
 use Rattle.zre_chat.specs.Statuses.{least, of_read, of_print, of_work, of_thread}
-use Rattle.zre_chat.proofs.Asker.{asker_ended}
+use Rattle.zre_chat.proofs.SecondCaller.{asker_ended}
 use Rattle.zre_chat.proofs.First.{below_self, first_of_all, reads_so, thread_unread}
 use Rattle.zre_chat.proofs.Rows.{thread_isnt}
 use Rattle.zre_chat.proofs.Talked.{talked}
-use Rattle.zre_chat.proofs.Whole.{untalked, head_only}
+use Rattle.zre_chat.proofs.ChatOfParts.{untalked, head_only}
 use Rattle.zre_chat.proofs.table.Table.converse.Goals as goal
 
 pub returns-in-Err-clause-chat : goal.returns-in-Err-clause-chat
@@ -56,14 +56,14 @@ returns-clause-chat g c = λ f start name s stands p. (
       seen (i.left (sym same.0 k)) (i.taken (sym same.0 k)) (i.faults (sym same.0 k)) (w.told (sym same.1 k)) (w.faults (sym same.1 k)) (o.written told.new.out) (o.faults told.new.out) (r.kept (sym same.2 k)) (r.named (sym same.2 k)) (r.faults (sym same.2 k)) (g.P.Spawner.faults told.new.spawner),
       sym status k,
     ))
-    (talked f start name a.work.keep a.work.limit s u t p out.node out.ending (w.looked a.work.world) (w.looked out.world) a.self.seat.pass out.pass (work stands)
-    (subst (λ j. Keeps (r.named j.4) (r.named out.rec)) began means.5) l.seat.none_popped l.seat.none_raised
+    (talked f start name a.work.keep a.work.limit s u t p out.node out.ending (w.looked a.work.world) (w.looked out.world) a.self.node_args.pass out.pass (work stands)
+    (subst (λ j. Keeps (r.named j.4) (r.named out.rec)) began means.5) l.node_args.none_popped l.node_args.none_raised
     done.end x.last.pass done.pass told.ensures.done.2 x.printer.asker printed.pass told.result.refused x.printer.taker printed.taker printed.fault told.ensures.printed
     told.ensures.failed rose l.none_taken l.last.2 l.new_asker c.requires.apart c.settle.ensures.fronts c.settle.ensures.taken))
 
 pub settle-requires-clause-pipes : goal.settle-requires-clause-pipes
 settle-requires-clause-pipes g c = (
-  subst (λ ps. IsActorOf ps c.join-worked.result.pass) (ap (λ j. arc_value j.0) c.in-Ok.ensures.started ∙ c.requires.laid.seat.same ∙ ap (λ p. arc_value p) (sym c.hold_talk-talk.ensures.same)) c.join-worked.ensures.0,
+  subst (λ ps. IsActorOf ps c.join-worked.result.pass) (ap (λ j. arc_value j.0) c.in-Ok.ensures.started ∙ c.requires.laid.node_args.same ∙ ap (λ p. arc_value p) (sym c.hold_talk-talk.ensures.same)) c.join-worked.ensures.0,
   c.hold_talk-talk.ensures.pipes.0,
 )
 
@@ -76,7 +76,7 @@ settle-requires-clause-back g c =
     let l = c.requires.laid in let told = c.hold_talk-talk in let done = told.result.done in let printed = told.result.printed in let o = g.O.Sink in let x = c.args.self.others in
     let many = two_alone done.pass printed.pass (told.ensures.done.2.puts.same_ended ∙ l.last.2.0)
     (asker_ended x.printer.asker told.result.refused x.printer.taker printed.taker printed.pass printed.fault (o.written c.args.out.now) (o.written told.new.out) told.ensures.printed ∙ l.new_asker.0) in
-    omega (arith, many, ap length (c.join-worked.ensures.1 ∙ ap (λ j. unused_by j.3) c.in-Ok.ensures.started), l.seat.unused)
+    omega (arith, many, ap length (c.join-worked.ensures.1 ∙ ap (λ j. unused_by j.3) c.in-Ok.ensures.started), l.node_args.unused)
 
 -- ---- the first of what occurred
 

@@ -27,7 +27,7 @@ returns-clause-laid c =
     let callers = two.pipes made.pipes m.pipes.2 in
     let new = two.new m.new in
     record {
-      seat = record {
+      node_args = record {
         same = s.1 ∙ all;
         of_pipes = subst (λ ps. IsActorOf ps made.actor) all m.pipes.0;
         unused = m.unused;

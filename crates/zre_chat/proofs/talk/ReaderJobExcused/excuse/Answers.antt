@@ -2,7 +2,7 @@ use Rattle.std.proofs.Common.{[], refl, arith}
 use mathlib.Core.Logic.{inl}
 use Rattle.std.proofs.KnownBytes.{Appends-nil, Consumes-nil}
 use Rattle.zre_console.proofs.reader.Puts.{puts-none}
-use Rattle.zre_chat.proofs.Whole.{nothing_begins}
+use Rattle.zre_chat.proofs.ChatOfParts.{nothing_begins}
 use Rattle.zre_chat.proofs.talk.ReaderJobExcused.excuse.Goals as goal
 
 pub returns : goal.returns

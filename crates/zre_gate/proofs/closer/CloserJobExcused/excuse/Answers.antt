@@ -1,12 +1,12 @@
 use Rattle.std.proofs.Common.{sym, subst}
 use Rattle.std.proofs.Math.Logic.{∥∥₁_map}
 use Rattle.zre_actor.specs.Passes.{IsCallerOf}
-use Rattle.zre_gate.specs.Gathering.{IsHall}
+use Rattle.zre_gate.specs.Gathering.{IsClientList}
 use Rattle.zre_gate.proofs.Gathered.{not_closed}
 use Rattle.zre_gate.proofs.closer.CloserJobExcused.excuse.Goals as goal
 
-pub gather-clients-requires-clause-hall : goal.gather-clients-requires-clause-hall
-gather-clients-requires-clause-hall g c = subst (λ p. ∥ IsHall g.B.GateName.hall p ∥₁) (sym c.deref.ensures) c.args.self.hall
+pub gather-clients-requires-clause-client_list : goal.gather-clients-requires-clause-client_list
+gather-clients-requires-clause-client_list g c = subst (λ p. ∥ IsClientList g.B.GateName.client_list p ∥₁) (sym c.deref.ensures) c.args.self.client_list
 
 pub returns : goal.returns
 returns g c = (

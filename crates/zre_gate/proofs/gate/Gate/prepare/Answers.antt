@@ -5,9 +5,9 @@ use Rattle.std.proofs.lemmas.Result.{err_from_is_err_and}
 use Rattle.zre_values.specs.declared.endpoint.Endpoint.{Endpoint}
 use Rattle.zre_outside.specs.Desks.{Register}
 use Rattle.zre_commands.specs.declared.pump.status.Status.TheVariants.{OutOfMemory}
-use Rattle.zre_chat.proofs.Early.{not_begun, not_entered}
+use Rattle.zre_chat.proofs.PreparingFailed.{not_begun, not_entered}
 use Rattle.zre_chat.proofs.First.{below_self}
-use Rattle.zre_chat.proofs.Whole.{none_started}
+use Rattle.zre_chat.proofs.ChatOfParts.{none_started}
 use Rattle.zre_gate.specs.Gate.{attended}
 use Rattle.zre_gate.specs.Stages.{Attends}
 use Rattle.zre_gate.proofs.Attended.{not_attended}

@@ -2,7 +2,7 @@ use Rattle.std.proofs.Common.{◌∙◌, true, map, refl, sym, subst}
 use mathlib.Core.Logic.{inl}
 use Rattle.zre_outside.specs.Causes.{Rose}
 use Rattle.zre_chat.proofs.First.{yields_since}
-use Rattle.zre_chat.proofs.Whole.{head_only, prepared, there}
+use Rattle.zre_chat.proofs.ChatOfParts.{head_only, prepared, there}
 use Rattle.zre_gate.specs.Clients.{row}
 use Rattle.zre_gate.specs.Gate.{IsGate, seen_beside}
 use Rattle.zre_gate.specs.Tables.{IsLaid}

@@ -17,16 +17,16 @@ use Rattle.zre_commands.specs.declared.pump.status.Status.TheVariants.{NoThread,
 use Rattle.zre_chat.specs.Chat.{Seen}
 use Rattle.zre_chat.proofs.First.{below_self, first_of_all}
 use Rattle.zre_chat.proofs.Rows.{memory_isnt, thread_isnt}
-use Rattle.zre_chat.proofs.Asker.{asker_ended}
-use Rattle.zre_chat.proofs.Whole.{head_only}
+use Rattle.zre_chat.proofs.SecondCaller.{asker_ended}
+use Rattle.zre_chat.proofs.ChatOfParts.{head_only}
 use Rattle.zre_gate.specs.Clients.{ClientRow, row}
 use Rattle.zre_gate.specs.Gate.{IsGate, seen_beside}
-use Rattle.zre_gate.specs.Halls.{hall_of, guests_of}
-use Rattle.zre_gate.specs.Tables.{chair_number}
+use Rattle.zre_gate.specs.ClientLists.{client_list_of, new_clients_of}
+use Rattle.zre_gate.specs.Tables.{caller_number}
 use Rattle.zre_gate.proofs.Holding.{gated}
-use Rattle.zre_gate.proofs.Places.{guests_before, guests_length, guests_numbers}
+use Rattle.zre_gate.proofs.Places.{new_clients_before, new_clients_length, new_clients_numbers}
 use Rattle.zre_gate.proofs.Answering.{nat_prop}
-use Rattle.zre_gate.proofs.Gathered.{closed_ended, same_hall}
+use Rattle.zre_gate.proofs.Gathered.{closed_ended, same_client_list}
 use Rattle.zre_gate.proofs.Unopened.{unopened}
 use Rattle.zre_gate.proofs.table.GateTable.serve.Goals as goal
 
@@ -65,30 +65,30 @@ returns-clause-gate g c = λ f start name s before after stands p. (
     let w = g.W.World in let o = g.O.Sink in let r = g.R.Recorder in let a = c.args in let l = c.requires.laid in
     let look = row g.C.Source.left g.C.Source.taken g.C.Source.faults g.C.Source.refused in
     let rows = map look a.clients.items in
-    let numbers = map chair_number a.self.chairs.items in
-    let even = length-map a.self.chairs.items chair_number ∙ l.many_chairs ∙ sym (length-map a.clients.items look) in
-    let guests = guests_of numbers rows in
-    let told = c.hold_talk-talk in let done = told.result.done in let printed = told.result.printed in let seated = c.seat_all-seated in
-    let close = told.ensures.done.1 (hall_of (arc_value a.self.base.others.printer.pipes) a.work.limit numbers rows) c.requires.hall in
+    let numbers = map caller_number a.self.all_args.items in
+    let even = length-map a.self.all_args.items caller_number ∙ l.many_args ∙ sym (length-map a.clients.items look) in
+    let new_clients = new_clients_of numbers rows in
+    let told = c.hold_talk-talk in let done = told.result.done in let printed = told.result.printed in let client_threads = c.start_clients-client_threads in
+    let close = told.ensures.done.1 (client_list_of (arc_value a.self.base.others.printer.pipes) a.work.limit numbers rows) c.requires.client_list in
     let out = c.join-worked.result in let means = c.join-worked.ensures in let began = c.in-Ok-start_node.ensures.started in let same = c.settle.ensures.same in
     let u = seen_beside (w.told a.work.world) (w.faults a.work.world) (o.written a.out.now) (o.faults a.out.now) (r.kept a.work.rec) (r.named a.work.rec) (r.faults a.work.rec) (g.P.Spawner.faults a.spawner.now) in
     let t = seen_beside (w.told out.world) (w.faults out.world) (o.written told.new.out) (o.faults told.new.out) (r.kept out.rec) (r.named out.rec) (r.faults out.rec) (g.P.Spawner.faults told.new.spawner) in
     let work = subst (λ j. StandsFor f [] j.2 → IsWork f [] j.5 j.6 (scene (w.told j.1) (w.looked j.1) (w.faults j.1) (r.kept j.4) (r.faults j.4) j.3)
     (scene (w.told out.world) (w.looked out.world) (w.faults out.world) (r.kept out.rec) (r.faults out.rec) out.pass) out.node out.ending) began (means.6 f []) in
     let rose : told.result.refused ≡ true → Rose (g.P.Spawner.faults a.spawner.now) (g.P.Spawner.faults told.new.spawner) = λ is. ⊎_elim
-    (λ before. (let h = seated.ensures.refused before in omega (arith, h, c.in-Ok-start_node.ensures.later, told.ensures.starts)))
-    (λ after. (let h = after in omega (arith, h, c.in-Ok-start_node.ensures.later, seated.ensures.later))) (told.ensures.refused is) in
-    let held = gated f start name a.work.keep a.work.limit (length a.clients.items) s u t p out.node out.ending (w.looked a.work.world) (w.looked out.world) a.self.base.seat.pass out.pass (work stands)
-    (subst (λ j. Keeps (r.named j.4) (r.named out.rec)) began means.5) l.base.seat.none_popped l.base.seat.none_raised
-    guests (map look done.input.items) a.self.base.others.last.pass done.pass done.status
+    (λ before. (let h = client_threads.ensures.refused before in omega (arith, h, c.in-Ok-start_node.ensures.later, told.ensures.starts)))
+    (λ after. (let h = after in omega (arith, h, c.in-Ok-start_node.ensures.later, client_threads.ensures.later))) (told.ensures.refused is) in
+    let held = gated f start name a.work.keep a.work.limit (length a.clients.items) s u t p out.node out.ending (w.looked a.work.world) (w.looked out.world) a.self.base.node_args.pass out.pass (work stands)
+    (subst (λ j. Keeps (r.named j.4) (r.named out.rec)) began means.5) l.base.node_args.none_popped l.base.node_args.none_raised
+    new_clients (map look done.input.items) a.self.base.others.last.pass done.pass done.status
     a.self.base.others.printer.asker printed.pass told.result.refused a.self.base.others.printer.taker printed.taker printed.fault told.ensures.printed
     told.ensures.failed rose l.base.none_taken l.base.last.2 l.base.new_asker
-    (λ m. subst (λ ns. times m (number a.self.base.others.last.pass ∷ number a.self.base.others.printer.asker ∷ ns) ≤ 1) (sym (guests_numbers numbers rows even)) (l.apart m))
-    c.settle.ensures.fronts c.settle.ensures.ended c.settle.ensures.taken desk (guests_length numbers rows even ∙ length-map a.clients.items look) close in
+    (λ m. subst (λ ns. times m (number a.self.base.others.last.pass ∷ number a.self.base.others.printer.asker ∷ ns) ≤ 1) (sym (new_clients_numbers numbers rows even)) (l.apart m))
+    c.settle.ensures.fronts c.settle.ensures.ended c.settle.ensures.taken desk (new_clients_length numbers rows even ∙ length-map a.clients.items look) close in
     subst (λ (x : Seen × List ClientRow × List ClientRow × Status). IsGate f start name a.work.limit (length a.clients.items) s x.0 desk x.1 x.2 x.3)
     (λ k. (
       seen_beside (w.told (sym same.1 k)) (w.faults (sym same.1 k)) (o.written told.new.out) (o.faults told.new.out) (r.kept (sym same.2 k)) (r.named (sym same.2 k)) (r.faults (sym same.2 k)) (g.P.Spawner.faults told.new.spawner),
-      guests_before numbers rows even k,
+      new_clients_before numbers rows even k,
       map look (sym same.0 k).items,
       sym c.settle.ensures.status k,
     ))
@@ -99,19 +99,19 @@ invariant_of-job g c =
     let l = c.requires.laid in let a = c.args in
     let look = row g.C.Source.left g.C.Source.taken g.C.Source.faults g.C.Source.refused in
     let rows = map look a.clients.items in
-    let numbers = map chair_number a.self.chairs.items in
-    let even = length-map a.self.chairs.items chair_number ∙ l.many_chairs ∙ sym (length-map a.clients.items look) in record {
+    let numbers = map caller_number a.self.all_args.items in
+    let even = length-map a.self.all_args.items caller_number ∙ l.many_args ∙ sym (length-map a.clients.items look) in record {
       of_pipes = subst (λ ps. IsCallerOf ps a.self.base.others.last.pass) (sym l.base.last.0) l.base.last.1;
-      hall = ∣ (hall_of (arc_value a.self.base.others.printer.pipes) a.work.limit numbers rows, c.requires.hall, sym l.base.last.0) ∣₁;
+      client_list = ∣ (client_list_of (arc_value a.self.base.others.printer.pipes) a.work.limit numbers rows, c.requires.client_list, sym l.base.last.0) ∣₁;
       many = λ there known. (
-          let same = same_hall g.B.GateName.hall (hall_of (arc_value a.self.base.others.printer.pipes) a.work.limit numbers rows) there c.requires.hall known in
-          ap (λ h. length h.guests) (sym same) ∙ guests_length numbers rows even ∙ length-map a.clients.items look ∙ omega (arith, c.in-Ok.ensures.lines, c.len.ensures, a.clients.ok));
+          let same = same_client_list g.B.GateName.client_list (client_list_of (arc_value a.self.base.others.printer.pipes) a.work.limit numbers rows) there c.requires.client_list known in
+          ap (λ h. length h.new_clients) (sym same) ∙ new_clients_length numbers rows even ∙ length-map a.clients.items look ∙ omega (arith, c.in-Ok.ensures.lines, c.len.ensures, a.clients.ok));
       room = (l.left_room.0, omega (arith, l.left_room.1, c.in-Ok.ensures.lines, c.len.ensures, a.clients.ok));
     }
 
 pub settle-requires-clause-pipes : goal.settle-requires-clause-pipes
 settle-requires-clause-pipes g c = (
-  subst (λ ps. IsActorOf ps c.join-worked.result.pass) (ap (λ j. arc_value j.0) c.in-Ok-start_node.ensures.started ∙ c.requires.laid.base.seat.same ∙ ap (λ p. arc_value p) (sym c.hold_talk-talk.ensures.same)) c.join-worked.ensures.0,
+  subst (λ ps. IsActorOf ps c.join-worked.result.pass) (ap (λ j. arc_value j.0) c.in-Ok-start_node.ensures.started ∙ c.requires.laid.base.node_args.same ∙ ap (λ p. arc_value p) (sym c.hold_talk-talk.ensures.same)) c.join-worked.ensures.0,
   c.hold_talk-talk.ensures.pipes.0,
 )
 
@@ -123,14 +123,14 @@ pub settle-requires-clause-back : goal.settle-requires-clause-back
 settle-requires-clause-back g c =
     let l = c.requires.laid in let told = c.hold_talk-talk in let a = c.args in let o = g.O.Sink in
     let done = told.result.done in let printed = told.result.printed in
-    let numbers = map chair_number a.self.chairs.items in
+    let numbers = map caller_number a.self.all_args.items in
     let rows = map (row g.C.Source.left g.C.Source.taken g.C.Source.faults g.C.Source.refused) a.clients.items in
-    let even = length-map a.self.chairs.items chair_number ∙ l.many_chairs ∙ sym (length-map a.clients.items (row g.C.Source.left g.C.Source.taken g.C.Source.faults g.C.Source.refused)) in
-    let close = told.ensures.done.1 (hall_of (arc_value a.self.base.others.printer.pipes) a.work.limit numbers rows) c.requires.hall in
+    let even = length-map a.self.all_args.items caller_number ∙ l.many_args ∙ sym (length-map a.clients.items (row g.C.Source.left g.C.Source.taken g.C.Source.faults g.C.Source.refused)) in
+    let close = told.ensures.done.1 (client_list_of (arc_value a.self.base.others.printer.pipes) a.work.limit numbers rows) c.requires.client_list in
     let many = how_back done.pass printed.pass (length a.clients.items)
-    (∥∥₁_elim close (nat_prop _ _) (λ k. closed_ended _ _ _ _ _ _ k l.base.last.2.0) ∙ guests_length numbers rows even ∙ length-map a.clients.items (row g.C.Source.left g.C.Source.taken g.C.Source.faults g.C.Source.refused))
+    (∥∥₁_elim close (nat_prop _ _) (λ k. closed_ended _ _ _ _ _ _ k l.base.last.2.0) ∙ new_clients_length numbers rows even ∙ length-map a.clients.items (row g.C.Source.left g.C.Source.taken g.C.Source.faults g.C.Source.refused))
     (asker_ended a.self.base.others.printer.asker told.result.refused a.self.base.others.printer.taker printed.taker printed.pass printed.fault (o.written a.out.now) (o.written told.new.out) told.ensures.printed ∙ l.base.new_asker.0) in
-    omega (arith, many, ap length (c.join-worked.ensures.1 ∙ ap (λ j. unused_by j.3) c.in-Ok-start_node.ensures.started), l.base.seat.unused)
+    omega (arith, many, ap length (c.join-worked.ensures.1 ∙ ap (λ j. unused_by j.3) c.in-Ok-start_node.ensures.started), l.base.node_args.unused)
 
 -- ---- the first of what occurred
 
@@ -152,4 +152,4 @@ returns-clause-first g c =
     let kept = subst (λ j. r.refused out.rec ≡ refused_after (is_record_fault out.ending) (r.refused j.4)) began means.8 in
     first_of_all told.result.done.status told.result.printed.fault out.ending told.result.refused c.settle.result.status _ _ _ _ _ _ c.settle.ensures.status
     told.ensures.written (ap r.refused same.2 ∙ kept) (ap w.refused same.1 ∙ gave)
-    (λ none. (told.ensures.counts none).1 ∙ c.seat_all-seated.ensures.counts (told.ensures.counts none).0 ∙ c.in-Ok-start_node.ensures.counts)
+    (λ none. (told.ensures.counts none).1 ∙ c.start_clients-client_threads.ensures.counts (told.ensures.counts none).0 ∙ c.in-Ok-start_node.ensures.counts)

@@ -2,7 +2,7 @@
 
 /// What is wrong with a line.
 #[derive(Clone, Copy)]
-pub enum Trouble {
+pub enum RowError {
     /// The subject has no such step, or the line is of no kind.
     UnknownKey,
     /// No text has this name.
@@ -14,15 +14,15 @@ pub enum Trouble {
     OutOfMemory,
 }
 
-impl Trouble {
+impl RowError {
     /// How it is printed.
     pub fn text(self) -> &'static [u8] {
         match self {
-            Trouble::UnknownKey => b"unknown key",
-            Trouble::UnknownName => b"unknown name",
-            Trouble::UnknownFile => b"unknown file",
-            Trouble::BadArgument => b"bad argument",
-            Trouble::OutOfMemory => b"out of memory",
+            RowError::UnknownKey => b"unknown key",
+            RowError::UnknownName => b"unknown name",
+            RowError::UnknownFile => b"unknown file",
+            RowError::BadArgument => b"bad argument",
+            RowError::OutOfMemory => b"out of memory",
         }
     }
 }
