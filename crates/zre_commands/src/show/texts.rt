@@ -1,12 +1,14 @@
 //! The texts of what messages mean.
 
 ghost use Rattle.std.specs.Prelude.{◌≡◌, ◌++◌, Ok, OnOk};
+ghost use Rattle.zre_msg.specs.Content.{content_of};
 ghost use Rattle.zre_msg.specs.Lent.{message_of};
+ghost use Rattle.zre_values.specs.Text.{quoted_list};
 ghost use Rattle.zre_commands.specs.show.Lines.{head_text, place_text, sender_text, whisper_text, shout_text};
 ghost use Rattle.zre_commands.specs.show.Lines.{change_text, other_text, body_text, meaning_text, why_text};
 ghost use Rattle.zre_commands.specs.show.Lines.{bad_text};
 
-use zre_msg::{Bad, BadWhy, Body, LentBody, LentMessage};
+use zre_msg::{Bad, BadWhy, Body, LentBody, LentContent, LentMessage};
 use zre_values::{
     Frames, Octets, OutOfMemory, Pairs, push_decimal, push_quoted, push_quoted_frames,
     push_quoted_list, push_quoted_pairs,
@@ -46,27 +48,42 @@ fn push_place(
     push_decimal(out, u64::from(status))
 }
 
-fn push_whisper(out: &mut Octets, sequence: u16, content: &[Octets]) -> Result<(), OutOfMemory>
-    ensures { OnOk result (out.new ≡ out.old ++ whisper_text sequence content.now) }
+// The frames after the first of a message.
+fn push_content(out: &mut Octets, content: LentContent<'_>) -> Result<(), OutOfMemory>
+    ensures { OnOk result (out.new ≡ out.old ++ quoted_list (content_of content.entry)) }
+{
+    match content {
+        LentContent::Frames(frames) => push_quoted_list(out, frames),
+        LentContent::One(Some(frame)) => push_quoted(out, frame),
+        LentContent::One(None) => push_quoted_list(out, &[]),
+    }
+}
+
+fn push_whisper(
+    out: &mut Octets,
+    sequence: u16,
+    content: LentContent<'_>,
+) -> Result<(), OutOfMemory>
+    ensures { OnOk result (out.new ≡ out.old ++ whisper_text sequence (content_of content.entry)) }
 {
     push_head(out, b"WHISPER", sequence)?;
     out.push(b' ')?;
-    push_quoted_list(out, content)
+    push_content(out, content)
 }
 
 fn push_shout(
     out: &mut Octets,
     sequence: u16,
     group: &[u8],
-    content: &[Octets],
+    content: LentContent<'_>,
 ) -> Result<(), OutOfMemory>
-    ensures { OnOk result (out.new ≡ out.old ++ shout_text sequence group.now content.now) }
+    ensures { OnOk result (out.new ≡ out.old ++ shout_text sequence group.now (content_of content.entry)) }
 {
     push_head(out, b"SHOUT", sequence)?;
     out.push(b' ')?;
     push_quoted(out, group)?;
     out.push(b' ')?;
-    push_quoted_list(out, content)
+    push_content(out, content)
 }
 
 // The group and the status of a change, after the head.
@@ -126,13 +143,14 @@ pub(crate) fn push_body(out: &mut Octets, sequence: u16, body: &Body) -> Result<
             push_place(out, endpoint, groups, *status)?;
             push_sender(out, name, headers)
         }
-        Body::Whisper { content } => push_whisper(out, sequence, content.as_slice()),
-        Body::Shout { group, content } => push_shout(
-            out,
-            sequence,
-            group.as_slice(),
-            content.as_slice(),
-        ),
+        Body::Whisper { content } => {
+            let content = LentContent::Frames(content.as_slice());
+            push_whisper(out, sequence, content)
+        }
+        Body::Shout { group, content } => {
+            let content = LentContent::Frames(content.as_slice());
+            push_shout(out, sequence, group.as_slice(), content)
+        }
         Body::Join { group, status } => {
             push_head(out, b"JOIN", sequence)?;
             push_change(out, group.as_slice(), *status)
