@@ -18,7 +18,7 @@ pub spared : (is : Bool) (now before : Option ℕ) → is ≡ false → now ≡ 
 spared is now before none same = same ∙ sym (ap (λ b. refused_after b before) none)
 
 -- the world refused a turn
-pub world_refused : (f : NextFault) (now mid before : Option ℕ) → now ≡ refused_after (is_failed {Turn} (Err f)) mid → mid ≡ before → now ≡ refused_after (is_world_fault (world_ending f)) before
+pub world_refused : (f : NextFault) (now mid before : Option ℕ) → now ≡ refused_after (is_failed {T = Turn} (Err f)) mid → mid ≡ before → now ≡ refused_after (is_world_fault (world_ending f)) before
 world_refused fault.Failed now mid before p q = p ∙ ap (option_map raised) q
 world_refused fault.OutOfMemory now mid before p q = p ∙ q
 

@@ -81,7 +81,7 @@ yields_since status failed none none' more (inl is) = inl (more is)
 yields_since status failed none none' more (inr le) = inr le
 
 -- a refusal whose failing is this status
-pub fault_yields : {T : Type 0} (failed : Status) (f : NextFault) (now before : Option ℕ) → now ≡ refused_after (is_failed {T} (Err f)) before → Yields (of_fault f failed) failed (now ≡ before)
+pub fault_yields : {T : Type 0} (failed : Status) (f : NextFault) (now before : Option ℕ) → now ≡ refused_after (is_failed {T = T} (Err f)) before → Yields (of_fault f failed) failed (now ≡ before)
 fault_yields failed fault.Failed now before is = inr (below_self (rank failed))
 fault_yields failed fault.OutOfMemory now before is = inl is
 

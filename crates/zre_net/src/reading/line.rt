@@ -36,14 +36,15 @@ fn start(alloc: Global, text: &[u8]) -> Result<Option<Move>, OutOfMemory>
     let Some((id, (field, place))) = who_and_place(rest) else {
         return Ok(None);
     };
+    let (host, port) = place;
     match name(alloc, field)? {
         Some(name) => Ok(Some(Move::Start {
             node,
             at,
             id,
             name,
-            host: place.0,
-            port: place.1,
+            host,
+            port,
         })),
         None => Ok(None),
     }

@@ -1,6 +1,6 @@
 use Rattle.std.proofs.Common.{ap, ◌∙◌}
 use Rattle.zre_net.specs.Rows.{running_at}
-use Rattle.zre_net.proofs.Begins.{nothing_more}
+use Rattle.zre_net.proofs.FirstNetwork.{nothing_more}
 use Rattle.zre_net.proofs.running.network.make_room.Goals as goal
 
 pub room-preserved : goal.room-preserved

@@ -1,5 +1,5 @@
 use Rattle.std.proofs.Common.{refl}
-use Rattle.zre_net.proofs.Begins.{runs_then}
+use Rattle.zre_net.proofs.FirstNetwork.{runs_then}
 use Rattle.zre_net.proofs.running.network.set_running.Goals as goal
 
 pub returns : goal.returns
