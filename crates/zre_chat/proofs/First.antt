@@ -81,9 +81,9 @@ yields_since status failed none none' more (inl is) = inl (more is)
 yields_since status failed none none' more (inr le) = inr le
 
 -- a refusal whose failing is this status
-pub fault_yields : {T : Type 0} (failed : Status) (f : NextFault) (now before : Option ℕ) → now ≡ refused_after (is_failed {T = T} (Err f)) before → Yields (of_fault f failed) failed (now ≡ before)
-fault_yields failed fault.Failed now before is = inr (below_self (rank failed))
-fault_yields failed fault.OutOfMemory now before is = inl is
+pub fault_yields : (T : Type 0) (failed : Status) (f : NextFault) (now before : Option ℕ) → now ≡ refused_after (is_failed {T = T} (Err f)) before → Yields (of_fault f failed) failed (now ≡ before)
+fault_yields T failed fault.Failed now before is = inr (below_self (rank failed))
+fault_yields T failed fault.OutOfMemory now before is = inl is
 
 -- all of it
 pub first_of_all : (read : Status) (broke : Option NextFault) (how : Ending) (refused : Bool) (status : Status)

@@ -15,7 +15,7 @@ pub returns-in-Err-lay-clause-refused : goal.returns-in-Err-lay-clause-refused
 returns-in-Err-lay-clause-refused g c = (true, c.in_default.ensures.told, tt)
 
 pub returns-in-Err-clause-first : goal.returns-in-Err-clause-first
-returns-in-Err-clause-first g c = rw (c.of_fault.ensures) (fault_yields WorldFault c.in-Err.fault _ _ c.in-Err.ensures.counts)
+returns-in-Err-clause-first g c = rw (c.of_fault.ensures) (fault_yields (Unit {0}) WorldFault c.in-Err.fault _ _ c.in-Err.ensures.counts)
 
 pub returns-in-Err-clause-unread : goal.returns-in-Err-clause-unread
 returns-in-Err-clause-unread g c = rw (c.of_fault.ensures) (world_unread c.in-Err.fault)

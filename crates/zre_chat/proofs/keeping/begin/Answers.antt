@@ -16,7 +16,7 @@ pub returns-clause-refused : goal.returns-clause-refused
 returns-clause-refused g c = rw (c.of_fault.ensures) (refused_early WriteFault c.in-Err.fault ⊥ ⊥ _ (λ is. c.in-Err.ensures.failed (ap Err is)))
 
 pub returns-clause-first : goal.returns-clause-first
-returns-clause-first g c = rw (c.of_fault.ensures) (fault_yields WriteFault c.in-Err.fault _ _ c.in-Err.ensures.counts)
+returns-clause-first g c = rw (c.of_fault.ensures) (fault_yields (Unit {0}) WriteFault c.in-Err.fault _ _ c.in-Err.ensures.counts)
 
 pub returns-clause-unread : goal.returns-clause-unread
 returns-clause-unread g c = rw (c.of_fault.ensures) (write_unread c.in-Err.fault)

@@ -1,5 +1,6 @@
 use Rattle.std.proofs.Common.{◌∙◌, refl, sym}
 use mathlib.Core.Logic.{inl}
+use Rattle.zre_commands.specs.declared.pump.status.Status.TheVariants.{WriteFault, WorldFault}
 use Rattle.zre_chat.specs.Chat.{seen}
 use Rattle.zre_chat.proofs.Callers.{two_apart}
 use Rattle.zre_chat.proofs.First.{yields_since}
@@ -36,7 +37,7 @@ returns-in-Err-clause-read g c = inl (refl, c.in-Err.ensures.unread)
 pub returns-in-Ok-clause-first : goal.returns-in-Ok-clause-first
 returns-in-Ok-clause-first g c = let f = c.converse.ensures.first in record {
   written = f.written;
-  recorded = yields_since _ _ _ _ (λ e. e ∙ c.in-Ok.ensures.counts.1) f.recorded;
-  given = yields_since _ _ _ _ (λ e. e ∙ c.in-Ok.ensures.counts.0) f.given;
+  recorded = yields_since _ WriteFault _ _ (λ e. e ∙ c.in-Ok.ensures.counts.1) f.recorded;
+  given = yields_since _ WorldFault _ _ (λ e. e ∙ c.in-Ok.ensures.counts.0) f.given;
   started = f.started;
 }

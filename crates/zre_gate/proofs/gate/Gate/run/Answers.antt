@@ -1,5 +1,6 @@
 use Rattle.std.proofs.Common.{◌∙◌, true, map, refl, sym, subst}
 use mathlib.Core.Logic.{inl}
+use Rattle.zre_commands.specs.declared.pump.status.Status.TheVariants.{WriteFault, WorldFault}
 use Rattle.zre_outside.specs.Causes.{Rose}
 use Rattle.zre_chat.proofs.First.{yields_since}
 use Rattle.zre_chat.proofs.ChatOfParts.{head_only, prepared, there}
@@ -62,8 +63,8 @@ returns-in-Ok-clause-first g c = let f = c.serve-served.ensures.first in let sam
     rw (c.ended.ensures) (
       record {
         written = f.written;
-        recorded = yields_since _ _ _ _ (λ e. e ∙ same.0) f.recorded;
-        given = yields_since _ _ _ _ (λ e. e ∙ same.1) f.given;
+        recorded = yields_since _ WriteFault _ _ (λ e. e ∙ same.0) f.recorded;
+        given = yields_since _ WorldFault _ _ (λ e. e ∙ same.1) f.given;
         started = f.started;
       },
       inl same.2,
