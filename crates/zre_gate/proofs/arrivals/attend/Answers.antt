@@ -1,5 +1,6 @@
 use Rattle.std.proofs.Common.{◌≡◌, ◌∙◌, ◌∷◌, [], true, length, length-append, refl, sym, ap, subst, arith}
 use Rattle.std.specs.Prelude.{option_map}
+use Rattle.std.proofs.lemmas.Result.{err_from_is_err_and}
 use Rattle.zre_outside.specs.Causes.{raised}
 use Rattle.zre_gate.specs.Gate.{attended}
 use Rattle.zre_gate.proofs.Attended.{just_begun, one_attended}
@@ -29,7 +30,9 @@ pub returns-in_err-client-clause-attends : goal.returns-in_err-client-clause-att
 returns-in_err-client-clause-attends g c = record { begun = true; is_told = c.in_err-client.ensures.refused ∙ c.each.invariant.told }
 
 pub returns-in_err-client-clause-counts : goal.returns-in_err-client-clause-counts
-returns-in_err-client-clause-counts g c = c.in_err-client.ensures.counts ∙ ap (option_map raised) c.each.invariant.counts
+returns-in_err-client-clause-counts g c =
+    let p = err_from_is_err_and c.from_residual-in_err-client.result c.from_residual-in_err-client.ensures.1 in
+    rw (p.1) (c.in_err-client.ensures.counts ∙ ap (option_map raised) c.each.invariant.counts)
 
 pub returns-clause-attends : goal.returns-clause-attends
 returns-clause-attends g c = record { begun = true; is_told = c.each.invariant.told }
