@@ -3,6 +3,3 @@ use Rattle.zre_app.proofs.plain_commands.obey.Goals as goal
 
 pub returns-in-None-clause-refused : goal.returns-in-None-clause-refused
 returns-in-None-clause-refused g c = nothing_read _ _ c.usage.ensures.unread
-
-pub returns-in-Exercise-clause-refused : goal.returns-in-Exercise-clause-refused
-returns-in-Exercise-clause-refused g c = nothing_read _ _ c.exercise.ensures.unread

@@ -19,7 +19,7 @@ pub returns-in-Ok-None-clause-first : goal.returns-in-Ok-None-clause-first
 returns-in-Ok-None-clause-first g c = λ is. line_first _ _ _ _ _ c.usage.ensures.first
 
 pub returns-then-not-is_chat-clause-read : goal.returns-then-not-is_chat-clause-read
-returns-then-not-is_chat-clause-read g c = read_so _ _ _ c.plain.ensures.refused
+returns-then-not-is_chat-clause-read g c = read_so _ _ _ c.plain-status.ensures.refused
 
 pub returns-then-not-is_chat-clause-first : goal.returns-then-not-is_chat-clause-first
-returns-then-not-is_chat-clause-first g c = λ is. absurd (true≢false (sym is ∙ c.is_chat.ensures ∙ c.if-not-is_chat.true))
+returns-then-not-is_chat-clause-first g c = λ is. absurd (true≢false (sym is ∙ sym c.is_chat.ensures ∙ c.if-not-is_chat.true))
