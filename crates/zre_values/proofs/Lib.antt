@@ -2,6 +2,7 @@ pub mod Addresses
 pub mod Answered
 pub mod Digits
 pub mod Endpoints
+pub mod IdTexts
 pub mod Numbers
 pub mod Orders
 pub mod Plain

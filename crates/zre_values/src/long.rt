@@ -31,10 +31,13 @@ const SPARE: usize = 4_096;
 #[cold]
 #[inline(never)]
 fn grow(items: &mut Vec<u8>, count: usize, more: usize) -> Result<(), OutOfMemory>
+    // What a caller knows.
     requires { count ≤ length items.old.items }
+    // What holds after each call.
     ensures front { take count items.new.items ≡ take count items.old.items }
-    ensures room { OnOk result (count + more ≤ length items.new.items) }
     ensures kept { count ≤ length items.new.items }
+    // What holds after success.
+    ensures room { OnOk result (count + more ≤ length items.new.items) }
 {
     let Some(size) = count.checked_add(more) else {
         return Err(OutOfMemory);
@@ -43,13 +46,16 @@ fn grow(items: &mut Vec<u8>, count: usize, more: usize) -> Result<(), OutOfMemor
     Ok(())
 }
 
-// The same, where room may be there.
+// Makes room for so many octets more after so many where it isn't there.
 #[inline(always)]
 fn make_room(items: &mut Vec<u8>, count: usize, more: usize) -> Result<(), OutOfMemory>
+    // What a caller knows.
     requires { count ≤ length items.old.items }
+    // What holds after each call.
     ensures front { take count items.new.items ≡ take count items.old.items }
-    ensures room { OnOk result (count + more ≤ length items.new.items) }
     ensures kept { count ≤ length items.new.items }
+    // What holds after success.
+    ensures room { OnOk result (count + more ≤ length items.new.items) }
 {
     if more <= items.len() - count {
         return Ok(());

@@ -147,7 +147,7 @@ impl Octets {
         }
     }
 
-    // The same where the octets lie in the value.
+    // Appends a copy of these octets, or nothing, to a list that lies in the value.
     #[inline(never)]
     fn append_inline(&mut self, bytes: &[u8]) -> Result<(), OutOfMemory>
         ensures ok { OnOk result (self.new ≡ self.old ++ bytes.now) }
@@ -175,7 +175,8 @@ impl Octets {
         }
     }
 
-    // The same where the octets lie in the value: all of them go into memory of their own.
+    // Appends the quoted text of each octet, or nothing, to a list that lies in the value. The whole list goes into
+    // memory of its own.
     #[cold]
     #[inline(never)]
     fn spill_quoted(&mut self, bytes: &[u8]) -> Result<(), OutOfMemory>

@@ -1,6 +1,7 @@
 ghost use Rattle.std.specs.Prelude.{◌≡◌, ◌++◌, length, option_map, OnOk, OnErr};
 ghost use Rattle.uuid.specs.Text.{parsed};
 
+use crate::quoted_table::row_of;
 use crate::{Octets, OutOfMemory};
 use uuid::Uuid;
 
@@ -29,18 +30,17 @@ impl PeerId {
     }
 
     /// The thirty-two upper-case digits.
-    #[tactic(auto, unfolding(crate::specs::Text::id_text))]
     pub fn write(self) -> [u8; 32]
         ensures { result ≡ id_text self }
     {
-        let mut buffer = [0u8; 32];
         let mut text = [0u8; 32];
-        text.copy_from_slice(
-            Uuid::from_bytes(self.0)
-                .simple()
-                .encode_upper(&mut buffer)
-                .as_bytes(),
-        );
+        let mut i: usize = 0;
+        'octets: while i < 16 {
+            let row = row_of(self.0[i]);
+            text[2 * i] = row[1];
+            text[2 * i + 1] = row[2];
+            i += 1;
+        }
         text
     }
 

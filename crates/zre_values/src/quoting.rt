@@ -34,7 +34,9 @@ pub(crate) const CHUNK: usize = 1_024;
 // that no jump depends on the octet, and in one go.
 #[inline(always)]
 fn write_octet(text: &mut [u8], at: usize, octet: u8) -> usize
+    // What a caller knows.
     requires { at + 4 ≤ length text.old }
+    // What is written, and how far.
     ensures text { take result text.new ≡ take at text.old ++ quoted_octet octet }
     ensures place { result ≤ at + 3 }
     ensures size { length text.new ≡ length text.old }
