@@ -1,6 +1,9 @@
 -- A connection and the octets that it was fed.
-use Rattle.std.proofs.Common.{◌≡◌, ℕ, ◌+◌, ◌<◌, Bool, false, List, [], ◌∷◌, ◌++◌, length, get_or, take, drop, Option, Some, None, Result, Ok, Err, refl, sym, ap, subst, ◌∙◌, arith}
-use Rattle.std.specs.Prelude.{option_to_list, option_and_then}
+use Rattle.std.proofs.Common.{◌≡◌, ℕ, ◌+◌, ◌<◌, Bool, false, List, [], ◌∷◌, ◌++◌, length, get_or, take, drop, Option, Some, None, Result, Ok, Err, IfOk, refl, sym, ap, subst, ◌∙◌, arith}
+use Rattle.std.specs.Prelude.{option_to_list, option_and_then, option_map}
+use Rattle.std.specs.Result.{result_ok}
+use Rattle.zre_msg.specs.Reading.{read_frames}
+use Rattle.zre_msg.specs.declared.message.Message.{Message}
 use Rattle.std.proofs.lemmas.List.{take_more, at_drop_more}
 use Rattle.std.specs.Option.{option_or}
 use Rattle.std.specs.List.{cons_option}
@@ -11,14 +14,19 @@ use Rattle.zre_zmtp.specs.Looks.{Looks, IsPaidOnRefusal}
 use Rattle.zre_zmtp.specs.declared.want.Want.{Want}
 use Rattle.zre_zmtp.specs.declared.want.Want.TheVariants.{Dealer}
 use Rattle.zre_zmtp.specs.declared.item.Item.{Item}
+use Rattle.zre_zmtp.specs.declared.item.What.TheVariants as says
+use Rattle.zre_zmtp.specs.declared.bodies.Came.{Came}
+use Rattle.zre_zmtp.specs.declared.bodies.Came.TheVariants as came
+use Rattle.zre_zmtp.specs.Lending.{bodies_in, given, BringsOn, TakesOn}
 use Rattle.zre_zmtp.specs.declared.fault.ZmtpFault.{ZmtpFault}
 use Rattle.zre_zmtp.specs.declared.fault.FeedFault.{FeedFault}
 use Rattle.zre_zmtp.specs.declared.fault.FeedFault.TheVariants.{Zmtp, OutOfMemory}
 use Rattle.zre_mailbox.specs.declared.arrival.Arrival.{Arrival}
+use Rattle.zre_mailbox.specs.declared.arrival.Arrival.TheVariants.{Message as MessageArrival}
 use Rattle.zre_mailbox.specs.declared.phase.Phase.{Phase}
 use Rattle.zre_mailbox.specs.declared.phase.Phase.TheVariants.{Live, Spent}
 use Rattle.zre_mailbox.specs.Talk.{arrival_of, arrivals_in, arrivals, fault_in, new_arrivals}
-use Rattle.zre_mailbox.specs.Conn.{introduced, identity_in, ConnHearing, reading, phase_by, conn_after, Brings, Hears}
+use Rattle.zre_mailbox.specs.Conn.{introduced, identity_in, ConnHearing, reading, phase_by, conn_after, Brings, Hears, HearsLent, lent_arrivals}
 use Rattle.zre_mailbox.proofs.Growing.{arrivals_in-append, new_arrivals-items, arrivals_grow, goes}
 
 -- ---- whom arrivals introduce
@@ -144,6 +152,55 @@ refused own o piece h r (Zmtp x) phase known start items e live none ended a =
     let fine = (live_reads own o h r e live).faultless in
     (a.0, (a.1.added, hears own o piece _ start items fine none a.1.added (is_spent_by own (o ++ piece) x phase known ended a.0 (known_by own o piece h known start items e none a.1))))
 refused own o piece h r OutOfMemory phase known start items e live none ended a = tt
+
+-- ---- a piece that is taken where it lies
+
+-- what arrives with the items that it gives
+arrives_lent : (c : Came) (start end : ℕ) → arrivals_in (given c start end) ≡ lent_arrivals c
+arrives_lent (came.Message l) start end = one_arrival (arrival_of (says.Message (bodies_in l)))
+arrives_lent came.Part start end = refl
+arrives_lent came.Other start end = refl
+
+introduces_none : (m : Option Message) → identity_in (option_to_list (option_map (λ x. MessageArrival x) m)) ≡ None
+introduces_none None = refl
+introduces_none (Some m) = refl
+
+-- it introduces nobody
+lent_none : (c : Came) → identity_in (lent_arrivals c) ≡ None
+lent_none (came.Message l) = introduces_none (result_ok (read_frames (bodies_in l)))
+lent_none came.Part = refl
+lent_none came.Other = refl
+
+or_none : {A : Type 0} (x : Option A) → x ≡ option_or x None
+or_none None = refl
+or_none (Some a) = refl
+
+lent_heard : (c : Came) (own : PeerId) (o piece : List ℕ) (h : ConnHearing) (r new : Reading) → h ≡ conn_after own o → h.phase ≡ Live r → BringsOn c r new piece
+    → let now : ConnHearing = record { phase = Live new; identity = h.identity } in (fault_in own (o ++ piece) ≡ None) × Hears own o piece now [] (lent_arrivals c)
+lent_heard c own o piece h r new e live brings =
+    let items = given c r.before.start new.before.place in
+    let a = brings (Dealer own) Whole o (live_reads own o h r e live) in
+    let same = arrives_lent c r.before.start new.before.place in
+    let known : h.identity ≡ option_or h.identity (identity_in (arrivals_in items)) = or_none h.identity ∙ ap (λ x. option_or h.identity x) (sym (ap identity_in same ∙ lent_none c)) in
+    let k = heard own o piece h r new h.identity [] items e live refl (a.0, record { added = a.1; identity = known }) in
+    let now : ConnHearing = record { phase = Live new; identity = h.identity } in
+    (k.0, subst (λ (l : List Arrival). Hears own o piece now [] l) same k.2)
+
+pub hears_lent : (c : Came) (own : PeerId) (o piece : List ℕ) (h now : ConnHearing) (r new : Reading) → h ≡ conn_after own o → h.phase ≡ Live r → (let n : ConnHearing = record { phase = Live new; identity = h.identity } in now ≡ n)
+    → (let m : ConnHearing = record { phase = Live r; identity = h.identity } in m ≡ h) → TakesOn c r new piece → HearsLent c own o piece h now
+hears_lent (came.Message l) own o piece h now r new e live is was t = rw is (lent_heard (came.Message l) own o piece h r new e live t)
+hears_lent came.Part own o piece h now r new e live is was t = rw is (lent_heard came.Part own o piece h r new e live t)
+hears_lent came.Other own o piece h now r new e live is was t = is ∙ ap (λ x. let n : ConnHearing = record { phase = Live x; identity = h.identity } in n) t ∙ was
+
+pub live_hearing : (h : ConnHearing) (r : Reading) → h.phase ≡ Live r → let m : ConnHearing = record { phase = Live r; identity = h.identity } in m ≡ h
+live_hearing h r live = ap (λ p. let m : ConnHearing = record { phase = p; identity = h.identity } in m) (sym live)
+
+-- a piece that wasn't taken
+pub unlent : {E : Type 0} (result : Result Came E) (r new : Reading) (piece : List ℕ) → IfOk result (λ c. TakesOn c r new piece) → result ≡ Ok came.Other → new ≡ r
+unlent (Ok came.Other) r new piece t e = t
+unlent (Ok came.Part) r new piece t e = absurd cc
+unlent (Ok (came.Message l)) r new piece t e = absurd cc
+unlent (Err x) r new piece t e = absurd cc
 
 -- ---- arrivals in place of items
 

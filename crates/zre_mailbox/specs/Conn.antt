@@ -1,6 +1,6 @@
 -- What an incoming connection keeps, as a function of the octets that it was fed.
 use Rattle.std.specs.Prelude.{◌≡◌, ℕ, Bool, true, false, List, [], ◌∷◌, ◌++◌, Option, Some, None, map, Result, OnOk}
-use Rattle.std.specs.Prelude.{IfErr}
+use Rattle.std.specs.Prelude.{IfErr, option_to_list}
 use Rattle.std.specs.Option.{option_or}
 use Rattle.zre_values.specs.declared.peer_id.PeerId.{PeerId}
 use Rattle.zre_zmtp.specs.Stream.{Kind, Whole, before, split}
@@ -10,11 +10,16 @@ use Rattle.zre_zmtp.specs.declared.want.Want.TheVariants.{Dealer}
 use Rattle.zre_zmtp.specs.declared.fault.ZmtpFault.{ZmtpFault}
 use Rattle.zre_zmtp.specs.declared.fault.FeedFault.{FeedFault}
 use Rattle.zre_zmtp.specs.declared.item.Item.{Item}
+use Rattle.zre_zmtp.specs.declared.item.What.TheVariants as says
+use Rattle.zre_zmtp.specs.declared.bodies.Came.{Came}
+use Rattle.zre_zmtp.specs.declared.bodies.Came.TheVariants as came
+use Rattle.zre_zmtp.specs.Lending.{bodies_in}
 use Rattle.zre_mailbox.specs.declared.arrival.Arrival.{Arrival}
 use Rattle.zre_mailbox.specs.declared.arrival.Arrival.TheVariants.{Greeted, Shaken, Ping, Message}
 use Rattle.zre_mailbox.specs.declared.phase.Phase.{Phase}
 use Rattle.zre_mailbox.specs.declared.phase.Phase.TheVariants.{Live, Spent, Ignored}
-use Rattle.zre_mailbox.specs.Talk.{Arrived, arrivals, arrivals_in, fault_in, fault_said, new_arrivals, completed}
+use Rattle.zre_mailbox.specs.Talk.{Arrived, arrival_of, arrivals, arrivals_in}
+use Rattle.zre_mailbox.specs.Talk.{fault_in, fault_said, new_arrivals, completed}
 
 -- ---- whom it shook hands with
 
@@ -116,3 +121,18 @@ abbrev pub RefusesToHear : Result (Unit {0}) FeedFault → ConnHearing → ConnH
 RefusesToHear result was now piece out out' =
     (own : PeerId) (o : List ℕ) → was ≡ conn_after own o →
     IfErr result (λ e. Refuses e (fault_in own (o ++ piece)) (Hears own o piece now out out'))
+
+-- ---- a piece that is taken where it lies
+
+-- what arrives with it
+abbrev pub lent_arrivals : Came → List Arrival
+lent_arrivals (came.Message l) = option_to_list (arrival_of (says.Message (bodies_in l)))
+lent_arrivals came.Part = []
+lent_arrivals came.Other = []
+
+-- After the octets o it was read, and has no fault; or nothing changed.
+abbrev pub HearsLent : Came → PeerId → List ℕ → List ℕ → ConnHearing → ConnHearing → Type 0
+HearsLent (came.Message l) own o piece was now =
+    (fault_in own (o ++ piece) ≡ None) × Hears own o piece now [] (lent_arrivals (came.Message l))
+HearsLent came.Part own o piece was now = (fault_in own (o ++ piece) ≡ None) × Hears own o piece now [] []
+HearsLent came.Other own o piece was now = now ≡ was

@@ -1,7 +1,7 @@
 //! One incoming connection.
 
 ghost use Rattle.std.specs.Prelude.{◌≡◌, ℕ, ◌+◌, ◌≤◌, ◌<◌, true, false, List, [], ◌++◌, length, None, OnOk, IfErr};
-ghost use Rattle.std.specs.Prelude.{is_err};
+ghost use Rattle.std.specs.Prelude.{is_err, Ok, IfOk};
 ghost use Rattle.zre_values.specs.declared.limits.TheConstants.{MESSAGE_OCTETS, COMMAND_OCTETS};
 ghost use Rattle.zre_values.specs.declared.peer_id.PeerId.{PeerId as PeerIdValue};
 ghost use Rattle.zre_zmtp.specs.Reading.{Refuses, Adds};
@@ -10,7 +10,7 @@ ghost use Rattle.zre_zmtp.specs.Stream.{Whole};
 ghost use Rattle.zre_zmtp.specs.declared.want.Want.TheVariants.{Dealer};
 ghost use Rattle.zre_mailbox.specs.Talk.{arrivals_in, fault_in};
 ghost use Rattle.zre_mailbox.specs.Conn.{conn_after, ignoring, is_ignored, is_spent, kept_of, Hears};
-ghost use Rattle.zre_mailbox.specs.Conn.{HearsOn, RefusesToHear};
+ghost use Rattle.zre_mailbox.specs.Conn.{HearsOn, HearsLent, RefusesToHear};
 ghost use Rattle.zre_mailbox.specs.declared.phase.Phase.TheVariants.{Spent as SpentPhase};
 
 use crate::arrival::Arrivals;
@@ -19,8 +19,8 @@ use crate::taking::{known_after, take_items};
 use std::alloc::Global;
 use std::marker::{Brand, Model};
 use std::sync::ledger::{Blank, Ledger};
-use zre_values::{PeerId, take_apart};
-use zre_zmtp::{FeedFault, Items, Reader, Steps, Want};
+use zre_values::{OutOfMemory, PeerId, take_apart};
+use zre_zmtp::{Bodies, Came, FeedFault, Items, Reader, Steps, Want};
 
 /// A connection that another node opened, read as a ROUTER: its other end has to be a DEALER whose identity is 01 and
 /// the UUID of another node.
@@ -143,6 +143,31 @@ impl Conn {
                 Err(fault)
             }
         }
+    }
+
+    /// Takes a piece that ends a message of one or two frames, or is a part of a frame, with no item made: what `feed`
+    /// does with it, but the message is lent. Other pieces change nothing.
+    #[inline]
+    pub fn take<'a, L: Ledger>(
+        &mut self,
+        piece: &'a [u8],
+        bodies: &'a mut Bodies,
+        steps: &mut Steps<L>,
+    ) -> Result<Came<'a>, OutOfMemory>
+        // What a caller knows.
+        requires heard { is_ignored self.old ≡ false }
+        requires unspent { is_spent self.old ≡ false }
+        // What the piece brings.
+        ensures taken { (own : PeerIdValue) (o : List ℕ) → self.old ≡ conn_after own o →
+            IfOk result (λ came. HearsLent came own o piece.now self.old self.new) }
+        ensures other { result ≡ Ok Came.Other → (self.new ≡ self.old) × (steps.new ≡ steps.old) }
+        // How many octets are looked at.
+        ensures looks { Looks steps.old steps.new (kept_of self.old) (kept_of self.new) (length piece.now) result }
+    {
+        let Phase::Live(reader) = &mut self.phase else {
+            unreachable!();
+        };
+        reader.take(piece, bodies, steps)
     }
 
     // A piece was refused, and nothing is kept.

@@ -1,6 +1,6 @@
 //! Messages that lie in the frames that they are read from.
 
-ghost use Rattle.std.specs.Prelude.{◌≡◌, ◌==◌, length, IfOk};
+ghost use Rattle.std.specs.Prelude.{◌≡◌, ◌==◌, ◌∷◌, [], length, IfOk};
 ghost use Rattle.zre_msg.specs.Content.{content_of};
 
 use crate::commands::LentBody;
@@ -27,6 +27,25 @@ pub struct LentMessage<'a> {
     pub content: LentContent<'a>,
 }
 
+// A copy of one frame, as a list.
+#[inline]
+fn copy_frame(alloc: Global, frame: &[u8]) -> Result<Frames, OutOfMemory>
+    ensures { IfOk result (λ frames. frames ≡ frame.now ∷ []) }
+{
+    Ok(Frames::of(alloc, Octets::copy(alloc, frame)?))
+}
+
+// Copies of frames. Most content is one frame, which takes no loop.
+#[inline]
+fn copy_frames(alloc: Global, frames: &[Octets]) -> Result<Frames, OutOfMemory>
+    ensures { IfOk result (λ copied. copied ≡ frames.now) }
+{
+    match frames {
+        [frame] => copy_frame(alloc, frame.as_slice()),
+        _ => Frames::copy(alloc, frames),
+    }
+}
+
 impl<'a> LentContent<'a> {
     /// Whether there are none.
     pub fn is_empty(&self) -> bool
@@ -43,9 +62,9 @@ impl<'a> LentContent<'a> {
         ensures { IfOk result (λ frames. frames ≡ content_of self.now) }
     {
         match self {
-            LentContent::Frames(frames) => Frames::copy(alloc, frames),
+            LentContent::Frames(frames) => copy_frames(alloc, frames),
             LentContent::One(None) => Ok(Frames::new(alloc)),
-            LentContent::One(Some(frame)) => Ok(Frames::of(alloc, Octets::copy(alloc, frame)?)),
+            LentContent::One(Some(frame)) => copy_frame(alloc, frame),
         }
     }
 }

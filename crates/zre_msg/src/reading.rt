@@ -232,7 +232,8 @@ impl Message {
         }
     }
 
-    /// The same of one frame or two, which lie where they came.
+    /// The message that one frame or two mean, where they don't begin as HELLO does, with its fields and its content
+    /// where they came. It takes no memory; `OutOfMemory` is told of a first frame of 2^32 octets alone.
     #[inline(always)]
     pub fn see_in<'a>(
         first: &'a [u8],

@@ -1,3 +1,4 @@
+pub mod Lendings
 pub mod Amounts
 pub mod Asking
 pub mod Birth

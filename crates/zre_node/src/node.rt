@@ -12,6 +12,7 @@ ghost use Rattle.zre_node.specs.Kinds.{is_piece, piece_entry};
 
 use crate::effects::{Effects, Step};
 use crate::incoming::hearing::Piece;
+use crate::steps::Room;
 use crate::tables::Tables;
 use std::alloc::Global;
 use std::marker::Brand;
@@ -21,20 +22,20 @@ use zre_journal::Config;
 use zre_outside::{Entry, Input};
 use zre_tables::{Conns, Peers};
 use zre_values::{Endpoint, OutOfMemory, take_apart};
-use zre_zmtp::{Items, Steps as Counter};
+use zre_zmtp::{Bodies, Items, Steps as Counter};
 
 /// A node of RFC 36, to which the entries of a journal are told one by one.
 pub struct Node {
     pub(crate) tables: Tables,
     effects: Effects,
-    items: Items,
+    room: Room,
     spent: bool,
 }
 
 // A derived drop would be inlined, field by field, wherever a node is let go; this one is called there.
 impl Drop for Node {
     fn drop(self) {
-        take_apart!(self, Node: tables, effects, items, spent);
+        take_apart!(self, Node: tables, effects, room, spent);
     }
 }
 
@@ -66,7 +67,10 @@ impl Node {
                 stopped: false,
             },
             effects: Effects::new(alloc),
-            items: Items::new(alloc),
+            room: Room {
+                bodies: Bodies::new(alloc),
+                items: Items::new(alloc),
+            },
             spent: false,
         })
     }
@@ -189,7 +193,7 @@ impl Node {
         self.begin()?;
         if !self.tables.stopped {
             self.tables
-                .take_piece(&mut self.effects, &mut self.items, piece, steps)?;
+                .take_piece(&mut self.effects, &mut self.room, piece, steps)?;
         }
         self.finish(step);
         Ok(())

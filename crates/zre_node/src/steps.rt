@@ -18,7 +18,14 @@ use crate::tables::Tables;
 use std::sync::ledger::Ledger;
 use zre_outside::{Command, Entry, Input};
 use zre_values::OutOfMemory;
-use zre_zmtp::{Items, Steps};
+use zre_zmtp::{Bodies, Came, Items, Steps};
+
+/// Room for what becomes whole with a piece: bodies that are lent, and items.
+#[derive(Drop)]
+pub struct Room {
+    pub bodies: Bodies,
+    pub items: Items,
+}
 
 impl Tables {
     // What a datagram, a connection that comes or goes, or an entry about a link but for replies brings.
@@ -92,9 +99,38 @@ impl Tables {
         }
     }
 
-    /// What a piece of a connection brings, where the node hasn't stopped. The list is for what becomes whole with it,
-    /// and serves again and again.
+    /// What a piece of a connection brings, where the node hasn't stopped. What becomes whole with it goes into the
+    /// room for it, which serves again and again.
     pub fn take_piece<L: Ledger>(
+        &mut self,
+        out: &mut Effects,
+        room: &mut Room,
+        piece: &Piece<'_>,
+        steps: &mut Steps<L>,
+    ) -> Result<(), OutOfMemory>
+        ensures took { Takes (piece_entry piece.now.at piece.now.from piece.now.bytes.now)
+            self.old self.new out.old out.new result }
+        ensures looks { TakesLooks (piece_entry piece.now.at piece.now.from piece.now.bytes.now)
+            self.old steps.old steps.new result }
+    {
+        let lent = Piece {
+            at: piece.at,
+            from: piece.from,
+            bytes: piece.bytes,
+        };
+        match self.come_lent(lent, &mut room.bodies, steps)? {
+            Came::Message(bodies) => {
+                self.said_lent(out, piece.from, &bodies)?;
+                self.offer(out)
+            }
+            Came::Part => self.offer(out),
+            Came::Other => self.take_fed(out, &mut room.items, piece, steps),
+        }
+    }
+
+    // What another piece of a connection brings.
+    #[inline(never)]
+    fn take_fed<L: Ledger>(
         &mut self,
         out: &mut Effects,
         items: &mut Items,

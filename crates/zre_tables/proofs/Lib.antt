@@ -5,6 +5,7 @@ pub mod Changing
 pub mod Entries
 pub mod Finding
 pub mod Hearings
+pub mod Lendings
 pub mod Listing
 pub mod Naming
 pub mod Offering

@@ -1,5 +1,6 @@
 pub mod Agreement
 pub mod Holding
+pub mod Lending
 pub mod Probing
 pub mod IdleConnections
 pub mod Rows

@@ -30,9 +30,9 @@ abbrev reading_of : Before → Want → Reading
 reading_of b want = record { before = b; left = []; spent = false; wanted = want }
 
 -- a frame of a message has no fault in its header, where limits are kept
-fine : (place start : ℕ) (bodies : List (List ℕ)) (h : Header) (head : List ℕ) → IsHeader h head → is_message h.flags ≡ true → length bodies < MESSAGE_FRAMES → sum_by length bodies + h.size ≤ MESSAGE_OCTETS
+pub traffic_fine : (place start : ℕ) (bodies : List (List ℕ)) (h : Header) (head : List ℕ) → IsHeader h head → is_message h.flags ≡ true → length bodies < MESSAGE_FRAMES → sum_by length bodies + h.size ≤ MESSAGE_OCTETS
     → header_fault (in_traffic place bodies start) head ≡ None
-fine place start bodies h head is m count sum =
+traffic_fine place start bodies h head is m count sum =
     let b = in_traffic place bodies start in
     let low : is_flags h.flags ≡ true = rw (le-leb h.flags 4 (omega (arith, ltb-true h.flags 4 m))) refl in
     let flags_ok : flags_fault b h.flags ≡ None = rw (low, m, lt-leb MESSAGE_FRAMES (length bodies) count) refl in
@@ -41,7 +41,7 @@ fine place start bodies h head is m count sum =
     let size_fine : size_fault b (flags head) (size head) ≡ None = ap (λ f. size_fault b f (size head)) is.flags_is ∙ ap (λ n. size_fault b h.flags n) is.size_is ∙ size_ok in
     neither (leb 1 (length head)) (has_header head) (flags_fault b (flags head)) (size_fault b (flags head) (size head)) flags_fine size_fine
 
-not_greeting : expect.Traffic ≢ expect.Greeting
+pub not_greeting : expect.Traffic ≢ expect.Greeting
 not_greeting e = cc
 
 -- what a frame at the front of the octets o has
@@ -71,7 +71,7 @@ frame_read want kind before place start bodies h head body rest o f count sum r 
     let now = frame_after b h body (length head + length body) in
     let new = option_to_list (frame_item b h body (length head + length body)) in
     let is = is_header h head f.header f.within in
-    let ok = fine place start bodies h head is f.message count (omega (arith, sum, f.sized)) in
+    let ok = traffic_fine place start bodies h head is f.message count (omega (arith, sum, f.sized)) in
     let a : Advances want b (head ++ body) [] new now [] =
     frame_taken want b h head body (length head) [] new now [] (is_framed want b h head body not_greeting f.header f.within f.sized ok) (rw f.message refl) refl refl refl refl in
     fed want kind before (head ++ body) (reading_of b want) (reading_of now want) [] new r a refl refl
@@ -93,11 +93,11 @@ resting want kind before r h at =
     ∙ ap (λ w. reading_by (in_traffic r.before.place [] r.before.start) [] false w) h.wants
 
 -- after the last frame of a message
-last_after : (place start : ℕ) (bodies : List (List ℕ)) (h : Header) (body : List ℕ) (len : ℕ) → is_message h.flags ≡ true → has_more h.flags ≡ false
+pub last_after : (place start : ℕ) (bodies : List (List ℕ)) (h : Header) (body : List ℕ) (len : ℕ) → is_message h.flags ≡ true → has_more h.flags ≡ false
     → frame_after (in_traffic place bodies start) h body len ≡ in_traffic (place + len) [] (place + len)
 last_after place start bodies h body len m e = rw (m, e) refl
 
-last_item : (place start : ℕ) (bodies : List (List ℕ)) (h : Header) (body : List ℕ) (len : ℕ) → is_message h.flags ≡ true → has_more h.flags ≡ false
+pub last_item : (place start : ℕ) (bodies : List (List ℕ)) (h : Header) (body : List ℕ) (len : ℕ) → is_message h.flags ≡ true → has_more h.flags ≡ false
     → frame_item (in_traffic place bodies start) h body len ≡ Some (record { start = start; end = place + len; what = Message (bodies ++ body ∷ []) })
 last_item place start bodies h body len m e = rw (m, e) refl
 

@@ -18,3 +18,5 @@ pub mod Messages
 pub mod Handshakes
 pub mod Written
 pub mod Fronts
+pub mod Unfinished
+pub mod Lendings

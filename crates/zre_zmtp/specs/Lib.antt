@@ -5,6 +5,7 @@ pub mod Run
 pub mod Shown
 pub mod Reading
 pub mod Front
+pub mod Lending
 pub mod Looks
 pub mod Written
 pub mod Ping

@@ -19,7 +19,7 @@ pub struct Front<'a> {
 
 // A whole frame of a message at the front of some octets: its header, its body and what stands after it.
 #[inline(always)]
-fn frame_at(octets: &[u8]) -> Option<(Header, &[u8], &[u8])>
+pub(crate) fn frame_at(octets: &[u8]) -> Option<(Header, &[u8], &[u8])>
     ensures { IfSome result (λ found. BeginsWith found.0 found.1.now found.2.now octets.now) }
 {
     let header = read_header(octets)?;

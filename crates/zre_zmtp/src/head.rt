@@ -59,6 +59,13 @@ impl Head {
         self.count
     }
 
+    /// None has come any more.
+    pub fn clear(&mut self)
+        ensures { self.new ≡ [] }
+    {
+        self.count = 0;
+    }
+
     /// One octet more.
     pub fn push(&mut self, octet: u8)
         requires { length self.old < 9 }

@@ -3,15 +3,18 @@
 #![tactic(auto)]
 
 mod begun;
+mod bodies;
 mod command;
 mod expected;
 mod fault;
 mod faults;
 mod front;
+mod greeted;
 mod head;
 mod header;
 mod item;
 mod laws;
+mod lending;
 mod looks;
 mod opened;
 mod partial;
@@ -22,6 +25,7 @@ mod turns;
 mod want;
 mod writing;
 
+pub use bodies::{Bodies, Came, LentBodies};
 pub use fault::{FeedFault, ZmtpFault, ZmtpWhy};
 pub use front::Front;
 pub use item::{Item, Items, What};

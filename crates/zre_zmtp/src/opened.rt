@@ -104,6 +104,17 @@ impl Opened {
         Ok(self.take(alloc))
     }
 
+    /// Hands the only body over into a place, and has none any more. What stood there is gone.
+    #[inline]
+    pub fn give(&mut self, place: &mut Octets)
+        requires { length self.old ≡ 1 }
+        ensures given { self.old ≡ place.new ∷ [] }
+        ensures empty { self.new ≡ [] }
+    {
+        *place = self.bodies.remove(0);
+        self.octets = 0;
+    }
+
     /// Hands the bodies out, and has none any more.
     fn take(&mut self, alloc: Global) -> Frames
         ensures taken { result ≡ self.old }

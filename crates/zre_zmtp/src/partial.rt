@@ -1,13 +1,15 @@
 //! The frame that isn't whole yet.
 
-ghost use Rattle.std.specs.Prelude.{◌≡◌, ◌≤◌, ◌<◌, [], length, None};
+ghost use Rattle.std.specs.Prelude.{◌≡◌, ◌+◌, ◌≤◌, ◌<◌, [], ◌++◌, length, None, Some, IsSome, IfOk, OnOk};
 ghost use Rattle.std.specs.Option.{ForSome, ForNone};
 ghost use Rattle.zre_zmtp.specs.Frame.{header_len, header_of};
 
 use crate::head::Head;
 use crate::header::Header;
-use crate::looks::Store;
+use crate::looks::{Steps, Store};
 use std::alloc::Global;
+use std::sync::ledger::Ledger;
+use zre_values::{Octets, OutOfMemory};
 
 /// The octets of a frame that isn't whole: those of its header, and apart from them those of its body, which are handed
 /// out as they stand.
@@ -37,5 +39,68 @@ impl Partial {
             header: None,
             body: Store::new(alloc),
         }
+    }
+
+    /// A frame begins whose header is whole, with octets of its body, fewer than it has. The copy is a look at each.
+    #[inline(always)]
+    pub fn begin<L: Ledger>(
+        &mut self,
+        header: Header,
+        head: &[u8],
+        body: &[u8],
+        steps: &mut Steps<L>,
+    ) -> Result<(), OutOfMemory>
+        // The header, and what there is of the body.
+        requires header { header_of head.now ≡ Some header }
+        requires within { length head.now ≤ header_len head.now }
+        requires unfinished { length body.now < header.size }
+        requires none { self.old.body ≡ [] }
+        // What is kept.
+        ensures head { OnOk result (self.new.head ≡ head.now) }
+        ensures header { OnOk result (self.new.header ≡ Some header) }
+        ensures body { OnOk result (self.new.body ≡ body.now) }
+        ensures looks { steps.new ≡ steps.old + length body.now }
+    {
+        self.body.add(body, steps)?;
+        self.head = Head::of(head);
+        self.header = Some(header);
+        Ok(())
+    }
+
+    /// Octets more of the body, which isn't whole with them. The copy is a look at each.
+    #[inline(always)]
+    pub fn add<L: Ledger>(&mut self, octets: &[u8], steps: &mut Steps<L>) -> Result<(), OutOfMemory>
+        requires known { IsSome self.old.header }
+        requires unfinished { ForSome self.old.header (λ said. length self.old.body + length octets.now < said.size) }
+        ensures head { (self.new.head ≡ self.old.head) × (self.new.header ≡ self.old.header) }
+        ensures body { OnOk result (self.new.body ≡ self.old.body ++ octets.now) }
+        ensures looks { steps.new ≡ steps.old + length octets.now }
+    {
+        self.body.add(octets, steps)
+    }
+
+    /// The body ends with these octets: it lies where they do, or in this place, where a part of it was kept. No octet
+    /// of a frame is there any more.
+    #[inline(always)]
+    pub fn end<'a, L: Ledger>(
+        &mut self,
+        octets: &'a [u8],
+        place: &'a mut Octets,
+        steps: &mut Steps<L>,
+    ) -> Result<&'a [u8], OutOfMemory>
+        ensures body { IfOk result (λ body. body.now ≡ self.old.body ++ octets.now) }
+        ensures empty { OnOk result ((self.new.head ≡ []) × (self.new.header ≡ None) × (self.new.body ≡ [])) }
+        ensures looks { steps.new ≤ steps.old + length octets.now }
+    {
+        if self.body.len() == 0 {
+            self.header = None;
+            self.head.clear();
+            return Ok(octets);
+        }
+        self.body.add(octets, steps)?;
+        self.body.give(place);
+        self.header = None;
+        self.head.clear();
+        Ok(place.as_slice())
     }
 }

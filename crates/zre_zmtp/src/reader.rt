@@ -1,17 +1,19 @@
 //! A reader of a stream that comes in pieces.
 
 ghost use Rattle.std.specs.Prelude.{◌≡◌, ℕ, ◌+◌, ◌-◌, ◌^◌, ◌<◌, ◌≤◌, ◌↔◌, min, false, List, [], length};
-ghost use Rattle.std.specs.Prelude.{IsErr, IsTrue, IfSome};
-ghost use Rattle.std.specs.Prelude.{None};
+ghost use Rattle.std.specs.Prelude.{IsErr, IsTrue, IfOk, IfSome};
+ghost use Rattle.std.specs.Prelude.{None, Ok};
 ghost use Rattle.std.specs.List.{concat};
 ghost use Rattle.zre_values.specs.declared.limits.TheConstants.{MESSAGE_OCTETS, COMMAND_OCTETS};
 ghost use Rattle.zre_zmtp.specs.Stream.{Want as WantValue, Any, Kind, Whole as whole_kind, Traffic as traffic_kind};
 ghost use Rattle.zre_zmtp.specs.Stream.{IsAtRest};
 ghost use Rattle.zre_zmtp.specs.Shown.{held, StandsAfter, NamesFault};
 ghost use Rattle.zre_zmtp.specs.Front.{PassesOn};
+ghost use Rattle.zre_zmtp.specs.Lending.{TakesOn};
 ghost use Rattle.zre_zmtp.specs.Reading.{Reads, ReadsOn, RefusesOn, kept};
 ghost use Rattle.zre_zmtp.specs.Looks.{Looks, IsOpenTo};
 
+use crate::bodies::{Bodies, Came, LentBodies};
 use crate::expected::Expected;
 use crate::fault::FeedFault;
 use crate::front::{Front, front_of};
@@ -25,7 +27,7 @@ use crate::want::Want;
 use std::alloc::Global;
 use std::marker::{Brand, Model};
 use std::sync::ledger::{Blank, Ledger};
-use zre_values::{Frames, take_apart};
+use zre_values::{Frames, OutOfMemory, take_apart};
 
 impl Progress {
     // Whether a message comes next, or a command, and nothing is unfinished.
@@ -177,6 +179,55 @@ impl Reader {
             return None;
         }
         let front = front_of(octets)?;
+        let end = self.progress.place.checked_add(front.len as u64)?;
+        self.progress.place = end;
+        self.progress.start = end;
+        Some(front)
+    }
+
+    /// Takes a piece that ends a message of one or two frames, or is a part of a frame, with no item made: what `feed`
+    /// does with it, but for the item. Other pieces change nothing. Its octets are looked at as `feed_counted` says.
+    #[inline(always)]
+    pub fn take<'a, L: Ledger>(
+        &mut self,
+        piece: &'a [u8],
+        bodies: &'a mut Bodies,
+        steps: &mut Steps<L>,
+    ) -> Result<Came<'a>, OutOfMemory>
+        requires { self.old.spent ≡ false }
+        // What it brings, or that it changes nothing.
+        ensures taken { IfOk result (λ came. TakesOn came self.old self.new piece.now) }
+        ensures spent { IsTrue self.new.spent ↔ IsErr result }
+        // How many octets are looked at.
+        ensures other { result ≡ Ok Came.Other → steps.new ≡ steps.old }
+        ensures looks { Looks steps.old steps.new (kept self.old) (kept self.new) (length piece.now) result }
+    {
+        if let Some(front) = self.pass_all(piece) {
+            let Front { first, second, .. } = front;
+            return Ok(Came::Message(LentBodies { first, second }));
+        }
+        self.spent = true;
+        let came = self.progress.take_piece(piece, bodies, steps)?;
+        self.spent = false;
+        Ok(came)
+    }
+
+    // `pass` of a piece that the message is all of; of others it changes nothing.
+    #[inline(always)]
+    fn pass_all<'a>(&mut self, piece: &'a [u8]) -> Option<Front<'a>>
+        requires { self.old.spent ≡ false }
+        ensures passed { IfSome result (λ front. PassesOn self.old self.new front piece.now) }
+        ensures all { IfSome result (λ front. front.len ≡ length piece.now) }
+        ensures none { result ≡ None → self.new ≡ self.old }
+        ensures kept { IfSome result (λ front. (kept self.old ≡ 0) × (kept self.new ≡ 0)) }
+    {
+        if !self.progress.at_rest() {
+            return None;
+        }
+        let front = front_of(piece)?;
+        if front.len != piece.len() {
+            return None;
+        }
         let end = self.progress.place.checked_add(front.len as u64)?;
         self.progress.place = end;
         self.progress.start = end;

@@ -6,8 +6,7 @@ ghost use Rattle.std.specs.Prelude.{option_to_list, true};
 ghost use Rattle.std.specs.Option.{ForSome};
 ghost use Rattle.zre_zmtp.specs.Frame.{header_of, header_len as header_len_of};
 ghost use Rattle.zre_zmtp.specs.Ready.{name as name_of, socket_type as socket_type_of, identity as identity_of};
-ghost use Rattle.zre_zmtp.specs.Stream.{Want as WantValue, said as said_by, opened_by, body_fault, item as item_of};
-ghost use Rattle.zre_zmtp.specs.Run.{after as after_of};
+ghost use Rattle.zre_zmtp.specs.Stream.{Want as WantValue, said as said_by, opened_by, body_fault};
 ghost use Rattle.zre_zmtp.specs.Shown.{before_of, left_of, held, frame_item, frame_after, header_fault, Waits};
 ghost use Rattle.zre_zmtp.specs.Shown.{Advances, RefusesAt, BeginsFrame, is_content as is_content_of};
 ghost use Rattle.zre_zmtp.specs.Shown.{StandsAfter, NamesFault, room as room_of};
@@ -18,7 +17,7 @@ use crate::begun::{begin_frame, header_at};
 use crate::command::{command_fault, identity, name, socket_type};
 use crate::expected::Expected;
 use crate::fault::{FeedFault, ZmtpFault, ZmtpWhy};
-use crate::faults::{GREETING_OCTETS, fault_of_header, fault_of_octet};
+use crate::faults::fault_of_header;
 use crate::head::Head;
 use crate::header::{Header, has_more, header_len, is_message, read_header};
 use crate::item::{Item, Items, What, push_message};
@@ -69,8 +68,8 @@ fn said_by_command(alloc: Global, size: u64, body: Octets) -> Result<What, OutOf
     Ok(What::Command { size, name, body })
 }
 
-// The place after a part, if there is a number for it.
-fn end_of(place: u64, header_len: usize, body_len: usize) -> Option<u64>
+/// The place after a part, if there is a number for it.
+pub(crate) fn end_of(place: u64, header_len: usize, body_len: usize) -> Option<u64>
     ensures { IfSome result (λ end. end ≡ place + (header_len + body_len)) }
 {
     place
@@ -201,70 +200,6 @@ impl Progress {
         if let Some(item) = self.finish_frame(want, header, head.len(), body)? {
             out.push(item)?;
         }
-        Ok(())
-    }
-
-    // The item that ends with the greeting, and what is known after it.
-    #[tactic(auto, unfolding(crate::specs::Stream::item))]
-    fn finish_greeting<L: Ledger>(&mut self, steps: &mut Steps<L>) -> Result<Item, FeedFault>
-        // What a caller knows.
-        requires expected { self.old.expected ≡ Expected.Greeting }
-        requires some { 12 ≤ length self.old.greeting }
-        // What the greeting says.
-        ensures says { IfOk result (λ found. item_of (before_of self.old) self.old.greeting ≡ Some found) }
-        // What is known after it.
-        ensures after { OnOk result (before_of self.new ≡ after_of (before_of self.old) self.old.greeting) }
-        ensures left { OnOk result (left_of self.new ≡ []) }
-        ensures err { IfErr result (λ e. e ≡ FeedFault.OutOfMemory) }
-        ensures opened { self.new.opened ≡ self.old.opened }
-        // How many octets are looked at.
-        ensures looks { steps.new ≤ steps.old + 2 }
-    {
-        let start = self.place;
-        let Some(end) = start.checked_add(self.greeting.len() as u64) else {
-            return Err(FeedFault::OutOfMemory);
-        };
-        let what = What::Greeting {
-            major: self.greeting.octet(10, steps),
-            minor: self.greeting.octet(11, steps),
-        };
-        self.expected = Expected::Ready;
-        self.place = end;
-        if self.opened.len() == 0 {
-            self.start = end;
-        }
-        self.greeting = Store::new(self.alloc);
-        self.partial = Partial::new(self.alloc);
-        Ok(Item { start, end, what })
-    }
-
-    // One octet more of the greeting.
-    fn take_greeting<L: Ledger>(
-        &mut self,
-        octet: u8,
-        out: &mut Items,
-        steps: &mut Steps<L>,
-    ) -> Result<(), FeedFault>
-        requires { self.old.expected ≡ Expected.Greeting }
-        // What the octets add.
-        ensures ok { (want : WantValue) → StandsAfter result want self.old self.new (octet ∷ []) out.old out.new }
-        // What a refusal tells, and what it leaves.
-        ensures refused { (want : WantValue) → NamesFault result want self.old (octet ∷ []) out.old out.new }
-        // How many octets are looked at.
-        ensures looks { Looks steps.old steps.new (held self.old) (held self.new) 1 result }
-    {
-        let i = self.greeting.len();
-        if let Some(why) = fault_of_octet(i, octet) {
-            return Err(FeedFault::Zmtp(ZmtpFault {
-                why,
-                place: i as u64,
-            }));
-        }
-        self.greeting.add(&[octet], steps)?;
-        if self.greeting.len() < GREETING_OCTETS {
-            return Ok(());
-        }
-        out.push(self.finish_greeting(steps)?)?;
         Ok(())
     }
 

@@ -12,15 +12,18 @@ ghost use Rattle.zre_journal.specs.Heard.{newly_completed};
 ghost use Rattle.zre_journal.specs.Connections.{is_live, is_open, identity, runs, other_with as other_in};
 ghost use Rattle.zre_journal.specs.Arrivals.{at_place, at_places, at_arrival, at_shaken, taken_over};
 ghost use Rattle.zre_node.specs.Stands.{Holds, Did, IsOpenIfAny};
+ghost use Rattle.zre_zmtp.specs.Lending.{bodies_in};
+ghost use Rattle.zre_tables.specs.Lending.{said_lent};
 ghost use Rattle.zre_node.specs.Said.{said_in, at_item};
 
 use crate::effects::Effects;
+use crate::incoming::runs::copied;
 use crate::tables::Tables;
 use zre_mailbox::{Arrival, arrival_of};
 use zre_msg::Message;
 use zre_peer::{Cause, CloseWhy};
 use zre_values::{OutOfMemory, PeerId};
-use zre_zmtp::{Item, SocketType, What, ZmtpFault, pong, ready};
+use zre_zmtp::{Came, Item, LentBodies, SocketType, What, ZmtpFault, pong, ready};
 
 /// What a live connection runs, and whom it introduced.
 #[derive(Clone, Copy)]
@@ -169,6 +172,49 @@ impl Tables {
             (What::Message(frames), Some(link)) => self.later_in(out, link, frames),
             _ => self.arrive_copied(out, conn, standing, what),
         }
+    }
+
+    /// A message whose bodies are lent became whole on a connection. Where that isn't live, it has no effect. A message
+    /// after the first is taken where it lies.
+    pub fn said_lent(
+        &mut self,
+        out: &mut Effects,
+        conn: u64,
+        bodies: &LentBodies<'_>,
+    ) -> Result<(), OutOfMemory>
+        ensures { (g : Config) (K : List Mark) → Holds g K self.old →
+            OnOk result (Did g (at_places g conn (said_lent (Came.Message bodies.now)) K) K self.new
+            out.old out.new) }
+    {
+        let Some(standing) = self.standing(conn) else {
+            return Ok(());
+        };
+        match standing.run {
+            Some(link) => self.later_lent(out, link, bodies),
+            None => self.arrive_lent(out, conn, standing, bodies),
+        }
+    }
+
+    // Such a message on a live connection that runs no peer, with copies of its bodies.
+    #[cold]
+    #[inline(never)]
+    fn arrive_lent(
+        &mut self,
+        out: &mut Effects,
+        conn: u64,
+        standing: Standing,
+        bodies: &LentBodies<'_>,
+    ) -> Result<(), OutOfMemory>
+        ensures { (g : Config) (H : List Mark) → Holds g H self.old → is_live conn H ≡ true
+            → standing.run ≡ runs conn H →
+            standing.identity ≡ identity conn H →
+            OnOk result (Did g (at_item g conn (arrival_of (What.Message (bodies_in bodies.now))) H) H self.new
+            out.old out.new) }
+    {
+        let what = What::Message(copied(self.alloc, bodies)?);
+        let taken = self.arrive_copied(out, conn, standing, &what);
+        drop(what);
+        taken
     }
 
     // All that is whole on a connection, in order.

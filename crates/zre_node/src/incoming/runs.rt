@@ -12,19 +12,33 @@ ghost use Rattle.zre_journal.specs.Arrivals.{at_later};
 ghost use Rattle.zre_journal.specs.Pushes.{push as pushing};
 ghost use Rattle.zre_journal.specs.Peers.{life};
 ghost use Rattle.zre_msg.specs.declared.message.Body.TheVariants.{PingOk};
+ghost use Rattle.zre_zmtp.specs.Lending.{bodies_in};
 ghost use Rattle.zre_node.specs.Said.{at_read};
 ghost use Rattle.zre_node.specs.Stands.{Holds, Did, DoesOnRun, is_ping};
 
 use crate::effects::Effects;
 use crate::tables::Tables;
+use std::alloc::Global;
 use zre_msg::{Body, LentBody, LentMessage, Message, ReadFault};
 use zre_peer::{Cause, RunFault, lent};
-use zre_values::{Frames, OutOfMemory};
+use zre_values::{Frames, Octets, OutOfMemory};
+use zre_zmtp::LentBodies;
 
 fn is_ping(command: &LentBody<'_>) -> bool
     ensures { (more : List (List ℕ)) → result ≡ is_ping (body_of command.now more) }
 {
     matches!(command, LentBody::Ping)
+}
+
+/// Copies of lent bodies, as the frames of a message.
+pub fn copied(alloc: Global, bodies: &LentBodies<'_>) -> Result<Frames, OutOfMemory>
+    ensures { IfOk result (λ frames. frames ≡ bodies_in bodies.now) }
+{
+    let mut frames = Frames::of(alloc, Octets::copy(alloc, bodies.first)?);
+    if let Some(second) = bodies.second {
+        frames.push(Octets::copy(alloc, second)?)?;
+    }
+    Ok(frames)
 }
 
 impl Tables {
@@ -82,6 +96,40 @@ impl Tables {
             Err(ReadFault::Bad(_)) => Ok(()),
             Err(ReadFault::OutOfMemory) => Err(OutOfMemory),
         }
+    }
+
+    /// The message that lent bodies mean, if they mean one, on the connection that runs the peer of this link.
+    pub fn later_lent(
+        &mut self,
+        out: &mut Effects,
+        link: u64,
+        bodies: &LentBodies<'_>,
+    ) -> Result<(), OutOfMemory>
+        ensures { DoesOnRun link (λ g H conn. at_read g conn link (result_ok (read_frames (bodies_in bodies.now))) H)
+            self.old self.new out.old out.new result }
+    {
+        match Message::see_in(bodies.first, bodies.second) {
+            Ok(Some(lent)) => self.later(out, link, &lent),
+            Ok(None) => self.hello_lent(out, link, bodies),
+            Err(ReadFault::Bad(_)) => Ok(()),
+            Err(ReadFault::OutOfMemory) => Err(OutOfMemory),
+        }
+    }
+
+    // The message of lent bodies that begin as HELLO does, if they mean one.
+    #[cold]
+    #[inline(never)]
+    fn hello_lent(
+        &mut self,
+        out: &mut Effects,
+        link: u64,
+        bodies: &LentBodies<'_>,
+    ) -> Result<(), OutOfMemory>
+        ensures { DoesOnRun link (λ g H conn. at_read g conn link (result_ok (read_frames (bodies_in bodies.now))) H)
+            self.old self.new out.old out.new result }
+    {
+        let frames = copied(self.alloc, bodies)?;
+        self.hello_in(out, link, &frames)
     }
 
     // The message of frames that begin as HELLO does, if they mean one: a further HELLO ends the peer.

@@ -5,6 +5,7 @@ ghost use Rattle.std.specs.Prelude.{◌≡◌, ℕ, ◌+◌, ◌<◌, List, [], 
 use crate::looks::steps::Steps;
 use std::alloc::Global;
 use std::marker::Model;
+use std::mem;
 use std::sync::ledger::Ledger;
 use zre_values::{Octets, OutOfMemory};
 
@@ -61,6 +62,16 @@ impl Store {
         ensures { result ≡ length self.now }
     {
         self.octets.len()
+    }
+
+    /// Hands the list over into a place, without a look, and has none any more. What stood there is gone.
+    #[inline]
+    pub fn give(&mut self, place: &mut Octets)
+        ensures given { place.new ≡ self.old }
+        ensures empty { self.new ≡ [] }
+    {
+        place.clear();
+        mem::swap(&mut self.octets, place);
     }
 
     /// The list itself, without a look.

@@ -10,12 +10,8 @@ use Rattle.zre_journal.specs.Chronicle.{Mark}
 use Rattle.zre_journal.specs.Connections.{runs}
 use Rattle.zre_node.specs.Said.{at_item, at_read}
 use Rattle.zre_node.specs.Stands.{Did}
+use Rattle.zre_node.proofs.Lendings.{comes_later}
 use Rattle.zre_node.proofs.tables.Tables.arrive.Goals as goal
-
--- a message on a connection that runs the peer of link l is one after the first
-comes_later : (g : Config) (c l : ℕ) (o : Option Message) (H : List Mark) → runs c H ≡ Some l → at_read g c l o H ≡ at_item g c (option_map (λ m. arrived.Message m) o) H
-comes_later g c l None H on = refl
-comes_later g c l (Some m) H on = ap (λ r. at_message g c r m H) (sym on)
 
 pub returns-in-Message-Some : goal.returns-in-Message-Some
 returns-in-Message-Some c = λ g H h.

@@ -9,25 +9,12 @@ use Rattle.zre_zmtp.specs.Shown.{before_of, left_of, Waits, header_fault}
 use Rattle.zre_zmtp.proofs.Framed.{IsHeader, is_header, left-frame, left-partial, fine-from_waits, waits-body}
 use Rattle.zre_zmtp.proofs.LooksByTurn.{paid}
 use Rattle.zre_zmtp.proofs.Turning.{turn_waits}
+use Rattle.zre_zmtp.proofs.Unfinished.{headed, fine, grown}
 use Rattle.zre_zmtp.proofs.progress.Progress.take_body.Goals as goal
-
-headed : (p : Progress) (part : Partial) (h : Header) → part ≡ p.partial → p.partial.header ≡ Some h → IsHeader h part.head
-headed p part h was known = is_header h part.head (sym part.known ∙ ap (λ (x : Partial). x.header) was ∙ known) part.within
-
--- nothing is wrong with the header of a frame that waits for more
-fine : (want : Want) (p : Progress) (part : Partial) (h : Header) → p.expected ≢ expect.Greeting → part ≡ p.partial → p.partial.header ≡ Some h → Waits want (before_of p) (left_of p)
-    → header_fault (before_of p) part.head ≡ None
-fine want p part h frame was known w =
-    fine-from_waits want (before_of p) h part.head part.body frame (headed p part h was known) (subst (λ (x : List ℕ). Waits want (before_of p) x) (left-partial p part frame was) w)
 
 -- what the header says that was kept
 kept_header : (p : Progress) (part : Partial) (h : Header) → part ≡ p.partial → part.header ≡ Some h → p.partial.header ≡ Some h
 kept_header p part h was is = ap (λ (x : Partial). x.header) (sym was) ∙ is
-
--- what is left with the octets that come
-grown : (p : Progress) (part : Partial) (more body : List ℕ) → p.expected ≢ expect.Greeting → part ≡ p.partial → body ≡ part.body ++ more → left_of p ++ more ≡ part.head ++ body
-grown p part more body frame was is =
-    ap (λ (x : List ℕ). x ++ more) (left-partial p part frame was) ∙ append_assoc part.head part.body more ∙ ap (λ (x : List ℕ). part.head ++ x) (sym is)
 
 pub returns-then-len-header-clause-ok : goal.returns-then-len-header-clause-ok
 returns-then-len-header-clause-ok g c =
