@@ -139,17 +139,11 @@ world_ending fault.OutOfMemory = ending.OutOfMemory
 -- the endings of which the world's and the recorder's refusals are the cause
 abbrev pub is_world_fault : Ending → Bool
 is_world_fault ending.WorldFault = true
-is_world_fault ending.RecordFault = false
-is_world_fault ending.Stopped = false
-is_world_fault ending.TooLong = false
-is_world_fault ending.OutOfMemory = false
+is_world_fault _ = false
 
 abbrev pub is_record_fault : Ending → Bool
 is_record_fault ending.RecordFault = true
-is_record_fault ending.WorldFault = false
-is_record_fault ending.Stopped = false
-is_record_fault ending.TooLong = false
-is_record_fault ending.OutOfMemory = false
+is_record_fault _ = false
 
 -- the recorder refused a line
 abbrev pub is_unkept : {T : Type 0} → Result T Ending → Bool

@@ -11,6 +11,7 @@ pub mod Readings
 pub mod RealWorlds
 pub mod ErrorClasses
 pub mod Looking
+pub mod MaybeShared
 pub mod TcpDesks
 pub mod Tokens
 pub mod NetworkFaults

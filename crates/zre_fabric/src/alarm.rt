@@ -2,11 +2,11 @@
 
 ghost use Rattle.std.specs.Prelude.{◌≡◌, is_none, true};
 
+use crate::maybe_shared::MaybeShared;
 use std::alloc::Global;
 use std::net::{Net, Shutdown};
 use std::os::fd::{AsRawFd, RawFd};
 use std::os::unix::net::UnixStream;
-use std::sync::Arc;
 use zre_outside::{Act, Command, NextFault, Recorder, Sink, Start, Turn, World};
 use zre_values::{OutOfMemory, take_apart};
 
@@ -20,7 +20,7 @@ struct Line {
 /// A share of an alarm. It is raised once, and stays so.
 #[derive(Drop)]
 pub struct Alarm {
-    line: Option<Arc<Line, Global>>,
+    line: MaybeShared<Line>,
 }
 
 impl Alarm {
@@ -30,7 +30,9 @@ impl Alarm {
     pub fn silent() -> Self
         ensures { is_silent result ≡ true }
     {
-        Alarm { line: None }
+        Alarm {
+            line: MaybeShared::nothing(),
+        }
     }
 
     /// An alarm. Where the system has none to give, it is silent.
@@ -38,9 +40,8 @@ impl Alarm {
         let Ok((near, far)) = UnixStream::pair(rt) else {
             return Alarm::silent();
         };
-        match Arc::new(alloc, Line { near, far }) {
-            Ok(line) => Alarm { line: Some(line) },
-            Err(_) => Alarm::silent(),
+        Alarm {
+            line: MaybeShared::new(alloc, Line { near, far }),
         }
     }
 
@@ -48,18 +49,14 @@ impl Alarm {
     pub fn share(&self) -> Self
         ensures { is_silent self.now ≡ true → is_silent result ≡ true }
     {
-        let Some(line) = &self.line else {
-            return Alarm::silent();
-        };
-        match Arc::try_clone(line) {
-            Ok(line) => Alarm { line: Some(line) },
-            Err(_) => Alarm::silent(),
+        Alarm {
+            line: self.line.share(),
         }
     }
 
     /// Raises it. Who hears it reads no more.
     pub fn raise(&self) {
-        if let Some(line) = &self.line {
+        if let Some(line) = self.line.get() {
             let _ = line.near.shutdown(Shutdown::Both);
         }
     }
@@ -78,7 +75,7 @@ impl Alarm {
     pub(crate) fn descriptor(&self) -> Option<RawFd>
         ensures { is_none result ≡ is_silent self.now }
     {
-        match &self.line {
+        match self.line.get() {
             Some(line) => Some(line.far.as_raw_fd()),
             None => None,
         }

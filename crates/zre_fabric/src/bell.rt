@@ -2,12 +2,12 @@
 
 ghost use Rattle.std.specs.Prelude.{◌≡◌, ◌≤◌, ◌<◌, true, is_none};
 
+use crate::maybe_shared::MaybeShared;
 use mio::net::UnixStream;
 use std::alloc::Global;
 use std::io::{self, Read, Write};
 use std::net::Net;
 use std::os::unix::net::UnixStream as Line;
-use std::sync::Arc;
 use std::time::Duration;
 use zre_outside::{Failed, Source};
 
@@ -29,7 +29,7 @@ const EMPTY: u8 = b'e';
 /// What rings the bell of a world. Several sources may share it.
 #[derive(Drop)]
 pub struct Ringer {
-    line: Option<Arc<Line, Global>>,
+    line: MaybeShared<Line>,
 }
 
 impl Ringer {
@@ -39,7 +39,9 @@ impl Ringer {
     pub fn silent() -> Self
         ensures { is_mute result ≡ true }
     {
-        Ringer { line: None }
+        Ringer {
+            line: MaybeShared::nothing(),
+        }
     }
 
     /// A bell, and what rings it. Where the system has none to give, it rings nothing.
@@ -49,25 +51,21 @@ impl Ringer {
         let Ok((line, bell)) = pair(rt) else {
             return (Ringer::silent(), None);
         };
-        match Arc::new(alloc, line) {
-            Ok(line) => (Ringer { line: Some(line) }, Some(bell)),
-            Err(_) => {
-                drop(bell);
-                (Ringer::silent(), None)
-            }
+        let line = MaybeShared::new(alloc, line);
+        if line.get().is_none() {
+            drop(line);
+            drop(bell);
+            return (Ringer::silent(), None);
         }
+        (Ringer { line }, Some(bell))
     }
 
     /// Another that rings the same bell.
     pub fn share(&self) -> Self
         ensures { is_mute self.now ≡ true → is_mute result ≡ true }
     {
-        let Some(line) = &self.line else {
-            return Ringer::silent();
-        };
-        match Arc::try_clone(line) {
-            Ok(line) => Ringer { line: Some(line) },
-            Err(_) => Ringer::silent(),
+        Ringer {
+            line: self.line.share(),
         }
     }
 }
@@ -111,7 +109,7 @@ impl<S> Ringing<S> {
         ensures some { 0 < result }
         ensures most { result ≤ len }
     {
-        if self.ringer.line.is_some() {
+        if self.ringer.line.get().is_some() {
             len.min(PIECE)
         } else {
             len
@@ -122,7 +120,7 @@ impl<S> Ringing<S> {
     fn ring(&mut self)
         ensures { source_under self.new ≡ source_under self.old }
     {
-        let Some(line) = &self.ringer.line else {
+        let Some(line) = self.ringer.line.get() else {
             return;
         };
         if self.given == 0 {

@@ -74,6 +74,7 @@ mod heeding;
 mod hold;
 mod link;
 mod links;
+mod maybe_shared;
 mod network_fault;
 mod pace;
 mod polled;

@@ -1,6 +1,6 @@
 -- What a link keeps, as a function of its line, of what came back and of what went out.
 use Rattle.std.specs.Prelude.{◌≡◌, ℕ, ◌+◌, ◌-◌, ◌<◌, ◌≤◌, min, nat_lt, Bool, if◌then◌else◌, List, [], ◌∷◌, ◌++◌, length}
-use Rattle.std.specs.Prelude.{take, drop, map, Option, Some, None, Result, OnOk, IfErr}
+use Rattle.std.specs.Prelude.{take, drop, map, Option, Some, None, Result, OnOk, IfOk, IfErr, OnErr}
 use Rattle.zre_values.specs.declared.limits.TheConstants.{UNSENT_OCTETS}
 use Rattle.zre_values.specs.declared.peer_id.PeerId.{PeerId}
 use Rattle.zre_zmtp.specs.Written.{pong_frame}
@@ -84,6 +84,14 @@ pub record IsSlow (waiting takes unsent size : ℕ) : Type 0 where
 abbrev pub RefusesPush : PushFault → ℕ → ℕ → Type 0
 RefusesPush (Slow unsent size) waiting takes = IsSlow waiting takes unsent size
 RefusesPush OutOfMemory waiting takes = Unit {0}
+
+-- A message of these octets was queued behind others, where so many octets were written before it: the result is how
+-- many there are with it, and no more wait than may. Or it was refused, and nothing changed.
+abbrev pub Queues : Result ℕ PushFault → (before after : List ℕ) → ℕ → List ℕ → Type 0
+Queues result before after written m =
+    IfOk result (λ all. (after ≡ before ++ m) × (all ≡ written + length m)
+    × (length before + length m ≤ UNSENT_OCTETS))
+    × IfErr result (λ e. RefusesPush e (length before) (length m)) × OnErr result (after ≡ before)
 
 -- The body was put, whatever the link was before: it stands at the end of the line, and no more wait than may.
 abbrev pub Puts : Result (Unit {0}) PushFault → Sending → Sending → Body → Type 0

@@ -2,9 +2,10 @@
 
 ghost use Rattle.std.specs.Prelude.{◌≡◌, ◌+◌, ◌-◌, ◌^◌, ◌<◌, ◌≤◌, ℕ, [], ◌++◌, length, min, IfOk, OnOk, IfErr, OnErr};
 ghost use Rattle.zre_values.specs.declared.limits.TheConstants.{UNSENT_OCTETS};
+ghost use Rattle.zre_values.specs.Framing.{frames};
 ghost use Rattle.zre_msg.specs.declared.message.Body.TheVariants.{Ping, Shout};
 ghost use Rattle.zre_msg.specs.Spelling.{Fits, FitsString, octets as octets_of};
-ghost use Rattle.zre_link.specs.Link.{RefusesPush};
+ghost use Rattle.zre_link.specs.Link.{Queues, RefusesPush};
 
 use crate::fault::PushFault;
 use crate::queue::Queue;
@@ -68,11 +69,7 @@ pub fn queue_message(
     requires some { 0 < written }
     requires empty { spelled.old ≡ [] }
     // The message is queued, or nothing is.
-    ensures ok { IfOk result (λ all. (queue.new ≡ queue.old ++ octets_of message.now)
-        × (all ≡ written + length (octets_of message.now))
-        × (length queue.old + length (octets_of message.now) ≤ UNSENT_OCTETS)) }
-    ensures refused { IfErr result (λ e. RefusesPush e (length queue.old) (length (octets_of message.now))) }
-    ensures unchanged { OnErr result (queue.new ≡ queue.old) }
+    ensures queued { Queues result queue.old queue.new written (octets_of message.now) }
     // No octet of it is kept beside the queue.
     ensures emptied { spelled.new ≡ [] }
 {
@@ -91,12 +88,8 @@ pub fn queue_ping(queue: &mut Queue, written: u64, sequence: u16) -> Result<u64,
     // The greeting was queued.
     requires some { 0 < written }
     // It is queued, or nothing is.
-    ensures ok { let m = octets_of (record { sequence = sequence; body = Ping }) in
-        IfOk result (λ all. (queue.new ≡ queue.old ++ m) × (all ≡ written + length m)
-        × (length queue.old + length m ≤ UNSENT_OCTETS)) }
-    ensures refused { let m = octets_of (record { sequence = sequence; body = Ping }) in
-        IfErr result (λ e. RefusesPush e (length queue.old) (length m)) }
-    ensures unchanged { OnErr result (queue.new ≡ queue.old) }
+    ensures queued { Queues result queue.old queue.new written
+        (octets_of (record { sequence = sequence; body = Ping })) }
 {
     let all = with_more(queue, written, 8)?;
     let [high, low] = sequence.to_be_bytes();
@@ -115,31 +108,19 @@ pub struct NumberedShout<'a> {
     pub tail: &'a Tail,
 }
 
-// Queues a SHOUT; its first frame, and maybe more of it, is left in `head`.
-fn spell_shout(
+// Queues a text and then the octets of the frames of a tail. The text may be longer after.
+fn queue_tailed(
     queue: &mut Queue,
-    head: &mut Octets,
+    text: &mut Octets,
     written: u64,
-    shout: &NumberedShout<'_>,
+    tail: &Tail,
 ) -> Result<u64, PushFault>
-    // It has a spelling, and the list is empty.
-    requires fits { FitsString shout.now.group.now }
     requires some { 0 < written }
-    requires empty { head.old ≡ [] }
-    // It is queued, or nothing is.
-    ensures ok { let body = Shout shout.now.group.now shout.now.tail.now in
-        let m = octets_of (record { sequence = shout.now.sequence; body = body }) in
-        IfOk result (λ all. (queue.new ≡ queue.old ++ m) × (all ≡ written + length m)
-        × (length queue.old + length m ≤ UNSENT_OCTETS)) }
-    ensures refused { let body = Shout shout.now.group.now shout.now.tail.now in
-        let m = octets_of (record { sequence = shout.now.sequence; body = body }) in
-        IfErr result (λ e. RefusesPush e (length queue.old) (length m)) }
-    ensures unchanged { OnErr result (queue.new ≡ queue.old) }
+    ensures queued { Queues result queue.old queue.new written (text.old ++ frames tail.now) }
 {
-    push_shout_head(head, shout.sequence, shout.group, !shout.tail.is_empty())?;
-    let size = (head.len() as u64).saturating_add(shout.tail.len() as u64);
+    let size = (text.len() as u64).saturating_add(tail.len() as u64);
     let all = with_more(queue, written, size)?;
-    shout.tail.put_after(queue, head)?;
+    tail.put_after(queue, text)?;
     Ok(all)
 }
 
@@ -156,18 +137,18 @@ pub fn queue_shout(
     requires some { 0 < written }
     requires empty { head.old ≡ [] }
     // The message is queued, or nothing is.
-    ensures ok { let body = Shout shout.now.group.now shout.now.tail.now in
-        let m = octets_of (record { sequence = shout.now.sequence; body = body }) in
-        IfOk result (λ all. (queue.new ≡ queue.old ++ m) × (all ≡ written + length m)
-        × (length queue.old + length m ≤ UNSENT_OCTETS)) }
-    ensures refused { let body = Shout shout.now.group.now shout.now.tail.now in
-        let m = octets_of (record { sequence = shout.now.sequence; body = body }) in
-        IfErr result (λ e. RefusesPush e (length queue.old) (length m)) }
-    ensures unchanged { OnErr result (queue.new ≡ queue.old) }
+    ensures queued { Queues result queue.old queue.new written (octets_of (record {
+      sequence = shout.now.sequence;
+      body = Shout shout.now.group.now shout.now.tail.now;
+    })) }
     // No octet of it is kept beside the queue.
     ensures emptied { head.new ≡ [] }
 {
-    let put = spell_shout(queue, head, written, shout);
+    let more = !shout.tail.is_empty();
+    let queued = match push_shout_head(head, shout.sequence, shout.group, more) {
+        Ok(()) => queue_tailed(queue, head, written, shout.tail),
+        Err(OutOfMemory) => Err(PushFault::OutOfMemory),
+    };
     head.clear();
-    put
+    queued
 }

@@ -8,4 +8,4 @@ returns-clause-ok c = λ own bodies linked o n e.
     let i = c.self.inside in
     let was : Sending = record { queue = i.queue; sent = i.sent; written = i.written; taken = i.taken; linked = i.linked; replies = i.replies } in
     pushed own bodies c.swap.new.x c.args.body.now linked o n was c.queue_message-queued.new.queue c.in-Some.sent c.in_ok-self-inside.field-0
-    (c.self.view_is ∙ e) c.self.invariant.0 (omega (arith, c.in-Some.ensures)) c.swap.ensures.x_after c.in_ok-self-inside.ensures.ok
+    (c.self.view_is ∙ e) c.self.invariant.0 (omega (arith, c.in-Some.ensures)) c.swap.ensures.x_after c.in_ok-self-inside.ensures.queued.0

@@ -9,4 +9,4 @@ returns-clause-ok c = λ own line linked o n e.
     let i = c.self.inside in
     let was : Sending = record { queue = i.queue; sent = i.sent; written = i.written; taken = i.taken; linked = i.linked; replies = i.replies } in
     pushed own line Ping Ping linked o n was c.queue_ping.new.queue c.in-Some.sent c.in_ok-self-inside.field-0
-    (c.self.view_is ∙ e) c.self.invariant.0 (omega (arith, c.in-Some.ensures)) refl c.in_ok-self-inside.ensures.ok
+    (c.self.view_is ∙ e) c.self.invariant.0 (omega (arith, c.in-Some.ensures)) refl c.in_ok-self-inside.ensures.queued.0

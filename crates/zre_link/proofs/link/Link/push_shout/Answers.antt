@@ -10,4 +10,4 @@ returns-clause-ok c = λ own line linked o n e.
     let was : Sending = record { queue = i.queue; sent = i.sent; written = i.written; taken = i.taken; linked = i.linked; replies = i.replies } in
     let body = Shout c.args.group.now c.args.tail.now in
     pushed own line body body linked o n was c.queue_shout.new.queue c.in-Some.sent c.in_ok-self-inside.field-0
-    (c.self.view_is ∙ e) c.self.invariant.0 (omega (arith, c.in-Some.ensures)) refl c.in_ok-self-inside.ensures.ok
+    (c.self.view_is ∙ e) c.self.invariant.0 (omega (arith, c.in-Some.ensures)) refl c.in_ok-self-inside.ensures.queued.0
