@@ -38,3 +38,4 @@ mod Starting
 mod Staying
 mod Stepping
 mod Texts
+mod Rows

@@ -13,7 +13,7 @@ use Rattle.std.specs.Option.{option_map}
 use Rattle.zre_journal.specs.Links.{bodies, text, taken}
 use Rattle.zre_journal.specs.Peers.{Life, lives, life}
 use Rattle.zre_journal.proofs.NumberedLists.{eqb-comm, any_found}
-use Rattle.zre_net.specs.declared.running.lines.Line.{Line}
+use Rattle.zre_net.specs.Lines.{Line}
 use Rattle.zre_net.specs.Lists.{nth}
 use Rattle.zre_net.specs.Lines.{IsNoted, IsNotedAt}
 use Rattle.zre_net.specs.Sender.{IsSeen, IsLookedAt, IsLooked}

@@ -6,7 +6,7 @@ use Rattle.zre_outside.specs.declared.entry.Entry.{Entry}
 use Rattle.zre_mailbox.specs.Conn.{ConnHearing}
 use Rattle.zre_msg.specs.Spelling.{octets}
 use Rattle.zre_link.specs.Text.{bodies_in, numbered_from, text_of}
-use Rattle.zre_net.specs.declared.running.lines.Line.{Line}
+use Rattle.zre_net.specs.Lines.{Line}
 use Rattle.zre_net.specs.declared.running.sender.Sender.{Sender}
 use Rattle.zre_net.specs.Sender.{Keeps}
 use Rattle.zre_net.specs.Sending.{Holds as Keeping, HasSent}

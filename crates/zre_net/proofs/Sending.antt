@@ -24,7 +24,7 @@ use Rattle.zre_journal.proofs.ProperChronicles.{is_proper}
 use Rattle.zre_journal.proofs.SaidOnConnections.{input_allowed}
 use Rattle.zre_journal.proofs.ProperPeers.{Comes-proper}
 use Rattle.zre_journal.proofs.WhenMarksCome.{May, Allowed}
-use Rattle.zre_net.specs.declared.running.lines.Line.{Line}
+use Rattle.zre_net.specs.Lines.{Line}
 use Rattle.zre_net.specs.Lines.{connects, fresh, messages_at, waited_at}
 use Rattle.zre_net.specs.Sender.{spelled, is_slight, Keeps, IsSeen, IsLooked}
 use Rattle.zre_net.proofs.Putting.{Put, put_by, as_many, when_gone, one_more}

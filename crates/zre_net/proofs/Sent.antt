@@ -14,7 +14,7 @@ use Rattle.zre_journal.proofs.JoinedEntries.{continues}
 use Rattle.zre_node.specs.declared.effects.Step.{Step}
 use Rattle.zre_node.specs.declared.node.Node.{Node}
 use Rattle.zre_node.specs.Journal.{StandsFor, IsStep}
-use Rattle.zre_net.specs.declared.running.lines.Line.{Line}
+use Rattle.zre_net.specs.Lines.{Line}
 use Rattle.zre_net.specs.Lines.{connects, fresh}
 use Rattle.zre_net.specs.Sender.{is_slight, Keeps, IsLooked}
 use Rattle.zre_net.specs.Sending.{Stepped}

@@ -41,8 +41,8 @@ abbrev pub streamed : Route → List Happening → List Part → List ℕ
 streamed s H parts = flat_map (spelling s H) parts
 
 -- Connection x of the schedule is this one. The octets that have come on it at its node, where it opened, and those
--- that it has yet to hand in, joined, are the spellings of the parts that it was made to carry: what has come is a front
--- of them. Nothing comes on it at another node.
+-- that it has yet to hand in, joined, are the spellings of the parts that it was made to carry: what has come is a
+-- front of them. Nothing comes on it at another node.
 pub record IsHandedIn (H : List Happening) (x : ℕ) (c : CarriedConn) : Type 0 where
   pub in_order : was_opened x (chronicle_of c.to H) ≡ true
       → bytes x (chronicle_of c.to H) ++ pending x H ≡ streamed c.along H (carried x H)

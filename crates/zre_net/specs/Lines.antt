@@ -4,8 +4,22 @@ use Rattle.std.specs.Prelude.{sum_by}
 use Rattle.std.specs.Option.{option_map_or}
 use Rattle.zre_outside.specs.declared.act.Act.{Act}
 use Rattle.zre_outside.specs.declared.act.Act.TheVariants as act
-use Rattle.zre_net.specs.declared.running.lines.Line.{Line}
+use Rattle.zre_net.specs.declared.running.lines.Row.{Row}
 use Rattle.zre_net.specs.Lists.{nth}
+use Rattle.zre_net.specs.Texts.{Text, messages_from, AreThere}
+
+-- a link: the messages that were put on it, as they are spelled, and how many octets waited after the last entry
+pub record Line : Type 0 where
+  pub messages : List (List ℕ)
+  pub waited : ℕ
+
+-- the link of a row, whose messages have texts among these
+abbrev pub line_of : List Text → Row → Line
+line_of texts x = record { messages = messages_from 1 texts x.places; waited = x.waited }
+
+-- the texts of a row are there
+abbrev pub HasTexts : List Text → Row → Type 0
+HasTexts texts x = AreThere texts x.places
 
 -- how many links were made
 abbrev pub connects : List Act → ℕ

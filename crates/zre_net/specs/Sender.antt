@@ -8,7 +8,7 @@ use Rattle.zre_journal.specs.Chronicle.{Mark}
 use Rattle.zre_journal.specs.Heard.{newly_completed}
 use Rattle.zre_journal.specs.Links.{bodies, queued, text, taken, unsent}
 use Rattle.zre_journal.specs.Peers.{life, births}
-use Rattle.zre_net.specs.declared.running.lines.Line.{Line}
+use Rattle.zre_net.specs.Lines.{Line}
 use Rattle.zre_net.specs.Lists.{nth}
 use Rattle.zre_net.specs.Lines.{messages_at, waited_at, IsNoted}
 

@@ -12,6 +12,7 @@ mod rows;
 mod said;
 mod schedule;
 mod sender;
+mod spelling;
 mod steps;
 mod texts;
 mod waiting;

@@ -21,10 +21,7 @@ piece 1 163 0
 ";
 
 fn has_entered(told: &[(u8, Event)], node: u8, peer: PeerId) -> bool {
-    match told {
-        [(at, Event::Enter { id, .. })] => *at == node && *id == peer,
-        _ => false,
-    }
+    matches!(told, [(at, Event::Enter { id, .. })] if *at == node && *id == peer)
 }
 
 #[test]
@@ -34,10 +31,9 @@ fn two_nodes_meet_in_one_process(rt: HostRuntime) -> Result<(), Fail> {
     for one in read_schedule(rt.alloc(), MEETING)?.moves()?.into_vec() {
         assert!(rt; network.take(one, &mut told)?);
     }
-    // Ann tells of Bob, and each has made a link to the other.
+    // Ann tells of Bob and knows him, each has made a link to the other, and no third node runs.
     assert!(rt; has_entered(told.as_slice(), 1, BOB));
     assert!(rt; network.links() == 2);
-    // Ann can be asked what she knows of Bob; of a third node nothing runs.
     assert!(rt; network.node(1).is_some_and(|ann| ann.peer(BOB).is_some()));
     assert!(rt; !network.take(Move::Tick { node: 3, at: 0 }, &mut told)?);
     Ok(())

@@ -1,6 +1,6 @@
 //! The values of the fields of moves.
 
-ghost use Rattle.std.specs.Prelude.{◌≡◌, [], ◌∷◌, option_map, IfOk};
+ghost use Rattle.std.specs.Prelude.{◌≡◌, option_map, IfOk};
 ghost use Rattle.zre_capture.specs.Reading.{fields_in};
 ghost use Rattle.zre_net.specs.Fields.{node_in, port_in, name_of, part_of, cut, number_then, one_node};
 ghost use Rattle.zre_net.specs.Fields.{node_and_number_then, node_and_number, number_and_node};

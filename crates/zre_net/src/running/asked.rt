@@ -4,7 +4,7 @@ ghost use Rattle.std.specs.Prelude.{◌≡◌, List, Some, is_some, length, IfSo
 ghost use Rattle.zre_node.specs.Journal.{StandsFor};
 ghost use Rattle.zre_net.specs.declared.moves.Move.{Move as MoveValue};
 ghost use Rattle.zre_net.specs.Comes.{history};
-ghost use Rattle.zre_net.specs.History.{Happening, Incarnation, running, journal};
+ghost use Rattle.zre_net.specs.History.{Incarnation, running, journal};
 ghost use Rattle.zre_net.specs.Numbers.{broadcasts, routes, conns};
 ghost use Rattle.zre_net.specs.Running.{HasRun};
 
@@ -39,7 +39,8 @@ impl Network {
         ensures there { (ms : List MoveValue) → HasRun ms self.now →
             is_some result ≡ is_some (running node (history ms)) }
         ensures stands { (ms : List MoveValue) (a : Incarnation) → HasRun ms self.now →
-            running node (history ms) ≡ Some a → IfSome result (λ n. StandsFor a.settings (journal a (history ms)) n.now) }
+            running node (history ms) ≡ Some a →
+            IfSome result (λ n. StandsFor a.settings (journal a (history ms)) n.now) }
     {
         let Some(start) = self.runner(node) else {
             return None;

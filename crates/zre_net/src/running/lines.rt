@@ -1,142 +1,93 @@
 //! The links of a node, and the messages that were put on them.
 
-ghost use Rattle.std.specs.Prelude.{◌≡◌, ◌+◌, ◌++◌, ◌∷◌, [], length, OnOk, OnErr, IfOk};
+ghost use Rattle.std.specs.Prelude.{◌≡◌, ◌+◌, ◌++◌, ◌∷◌, [], List as Values, OnOk, OnErr, IfOk};
 ghost use Rattle.zre_net.specs.Lists.{nth as nth_of};
-ghost use Rattle.zre_net.specs.Lines.{messages_at, message_octets, octets_in, IsNoted, IsNotedAt};
+ghost use Rattle.zre_net.specs.Lines.{line_of, messages_at, message_octets, octets_in, HasTexts, IsNoted, IsNotedAt};
+ghost use Rattle.zre_net.specs.Texts.{Text};
 
 use crate::running::nth::nth;
-use crate::running::texts::{LONG, Texts};
-use bytes::Bytes;
+use crate::running::spelling::Spelling;
+use crate::running::texts::Texts;
 use std::alloc::Global;
 use std::marker::Model;
 use zre_link::Queue;
-use zre_values::{OutOfMemory, take_apart};
+use zre_values::{List, OutOfMemory, take_apart};
 
-/// A link: the messages that were put on it, as they are spelled, and how many octets waited after the last entry.
-pub(crate) struct Line {
-    pub messages: Texts,
-    pub waited: usize,
+/// A link: the texts of the messages that were put on it, by their numbers, and how many octets waited after the last
+/// entry.
+pub(crate) struct Row {
+    places: List<u32>,
+    waited: usize,
 }
 
-impl Drop for Line {
+impl Drop for Row {
     fn drop(self) {
-        take_apart!(self, Line: messages, waited);
+        take_apart!(self, Row: places, waited);
     }
 }
 
-/// The links of a node, by their numbers from 1.
+/// The links of a node, by their numbers from 1. What was put on many of them is there once.
 pub(crate) struct Lines {
-    rows: Vec<Line>,
+    rows: Vec<Row>,
+    texts: Texts,
     octets: u64,
-    /// The newest long messages, to share.
-    newest: Newest,
-}
-
-/// The newest first message of a link, a HELLO, and the newest message of any link, as far as they are long: the next
-/// may be the same, since what goes to many peers is put on their links one after the other.
-struct Newest {
-    first: Bytes,
-    last: Bytes,
-}
-
-impl Drop for Newest {
-    fn drop(self) {
-        take_apart!(self, Newest: first, last);
-    }
 }
 
 impl Drop for Lines {
     fn drop(self) {
-        take_apart!(self, Lines: rows, octets, newest);
+        take_apart!(self, Lines: rows, texts, octets);
     }
 }
 
 impl Model for Lines {
-    ghost use Rattle.std.specs.Prelude.{◌≡◌, List};
-    ghost use Rattle.zre_net.specs.declared.running.lines.Line.{Line};
-    ghost use Rattle.zre_net.specs.Lines.{octets_in};
+    ghost use Rattle.std.specs.Prelude.{◌≡◌, List, map};
+    ghost use Rattle.std.specs.List.{AllByRecursion};
+    ghost use Rattle.zre_net.specs.Lines.{Line, line_of, octets_in, HasTexts};
 
     ghost Value = { List Line };
 
-    ghost view = { λ lines. lines.rows.items };
+    ghost view = { λ lines. map (line_of lines.texts) lines.rows.items };
 
-    ghost invariant = { λ lines. lines.octets ≡ octets_in lines.rows.items };
+    ghost invariant = { λ lines. (lines.octets ≡ octets_in (map (line_of lines.texts) lines.rows.items))
+        × AllByRecursion (HasTexts lines.texts) lines.rows.items };
 }
 
-// These octets, shared with those before where they are the same.
-fn shared(before: &Bytes, octets: Bytes) -> Result<Bytes, OutOfMemory>
-    ensures { IfOk result (λ b. b ≡ octets) }
-{
-    if before.as_slice() == octets.as_slice() {
-        return Ok(before.clone()?);
-    }
-    Ok(octets)
-}
-
-impl Newest {
-    // None yet.
-    fn new() -> Newest {
-        Newest {
-            first: Bytes::new(),
-            last: Bytes::new(),
-        }
-    }
-
-    // These octets, shared with the newest that are the same, if any are.
-    fn shared(&self, octets: Bytes) -> Result<Bytes, OutOfMemory>
-        ensures { IfOk result (λ b. b ≡ octets) }
-    {
-        if octets.len() < LONG {
-            return Ok(octets);
-        }
-        shared(&self.last, shared(&self.first, octets)?)
-    }
-
-    // A message is put on a link after so many others.
-    fn keep(&mut self, count: u64, message: &Bytes) -> Result<(), OutOfMemory> {
-        if message.len() < LONG {
-            return Ok(());
-        }
-        if count == 0 {
-            self.first = message.clone()?;
-        }
-        self.last = message.clone()?;
-        Ok(())
-    }
-}
-
-impl Line {
+impl Row {
     // So many messages were put on it, and this waits on it: at most one message more than before. Gives how many
     // octets all messages have, where they had so many before.
     fn note(
         &mut self,
-        newest: &mut Newest,
+        texts: &mut Texts,
         octets: u64,
         sent: u64,
         waits: &Queue,
     ) -> Result<u64, OutOfMemory>
-        ensures noted { OnOk result (IsNoted sent waits.now self.old self.new) }
-        ensures octets { IfOk result (λ all. all + message_octets self.old ≡ octets + message_octets self.new) }
+        // Its texts are there.
+        requires { HasTexts texts.old self.old }
+        // What was put on it, or nothing is changed.
+        ensures noted { OnOk result (IsNoted sent waits.now (line_of texts.old self.old) (line_of texts.new self.new)) }
+        ensures octets { IfOk result (λ all. all + message_octets (line_of texts.old self.old)
+            ≡ octets + message_octets (line_of texts.new self.new)) }
         ensures unchanged { OnErr result (self.new ≡ self.old) }
+        // Its texts are there, and those of others.
+        ensures there { HasTexts texts.new self.new }
+        ensures grows { (more : Values Text) × (texts.new ≡ texts.old ++ more) }
     {
-        let count = self.messages.len();
+        let count = self.places.len() as u64;
         if sent == count {
             self.waited = waits.len();
             return Ok(octets);
         }
-        if sent != count.saturating_add(1) || waits.len() < self.waited {
+        if sent.saturating_sub(count) != 1 || waits.len() < self.waited {
             return Err(OutOfMemory);
         }
-        let message = newest.shared(waits.last(waits.len() - self.waited)?)?;
+        let message = waits.last(waits.len() - self.waited)?;
         let Some(all) = octets.checked_add(message.len() as u64) else {
             drop(message);
             return Err(OutOfMemory);
         };
-        let Ok(()) = newest.keep(count, &message) else {
-            drop(message);
-            return Err(OutOfMemory);
-        };
-        self.messages.push(message)?;
+        let place = texts.put(sent, message)?;
+        self.places.push(place)?;
         self.waited = waits.len();
         Ok(all)
     }
@@ -149,8 +100,8 @@ impl Lines {
     {
         Lines {
             rows: Vec::new(alloc),
+            texts: Texts::new(alloc),
             octets: 0,
-            newest: Newest::new(),
         }
     }
 
@@ -167,11 +118,14 @@ impl Lines {
         alloc: Global,
         link: u64,
         number: u64,
-    ) -> Result<Option<Bytes>, OutOfMemory>
+    ) -> Result<Option<Spelling>, OutOfMemory>
         ensures { IfOk result (λ text. text ≡ nth_of number (messages_at link self.now)) }
     {
-        match nth(self.rows.as_slice(), link) {
-            Some(line) => line.messages.get(alloc, number),
+        let Some(row) = nth(self.rows.as_slice(), link) else {
+            return Ok(None);
+        };
+        match nth(row.places.as_slice(), number) {
+            Some(text) => self.texts.get(alloc, *text, number),
             None => Ok(None),
         }
     }
@@ -180,8 +134,8 @@ impl Lines {
     pub fn add(&mut self, alloc: Global, handshake: usize) -> Result<(), OutOfMemory>
         ensures { OnOk result (self.new ≡ self.old ++ record { messages = []; waited = handshake } ∷ []) }
     {
-        self.rows.push(Line {
-            messages: Texts::new(alloc),
+        self.rows.push(Row {
+            places: List::new(alloc),
             waited: handshake,
         })?;
         Ok(())
@@ -194,8 +148,8 @@ impl Lines {
         if place >= self.rows.len() {
             return Err(OutOfMemory);
         }
-        let line = &mut self.rows[place];
-        self.octets = line.note(&mut self.newest, self.octets, sent, waits)?;
+        let row = &mut self.rows[place];
+        self.octets = row.note(&mut self.texts, self.octets, sent, waits)?;
         Ok(())
     }
 }

@@ -1,6 +1,6 @@
-ghost use Rattle.std.specs.Prelude.{◌≡◌, ◌<◌, ℕ, [], List, length, Some, option_map, IfOk, OnOk};
+ghost use Rattle.std.specs.Prelude.{◌≡◌, ◌<◌, ℕ, [], List, length, Some, IfOk, OnOk};
 ghost use Rattle.std.specs.List.{list_all, list_any};
-ghost use Rattle.zre_net.specs.History.{Happening, Incarnation, incarnations};
+ghost use Rattle.zre_net.specs.History.{Happening};
 ghost use Rattle.zre_net.specs.Numbers.{conns, routes};
 ghost use Rattle.zre_net.specs.Lists.{nth as nth_of};
 ghost use Rattle.zre_net.specs.Rows.{running_at, fits_owner, is_owner, is_at, Owns, with_running};

@@ -14,8 +14,8 @@ use crate::running::nth::{nth, place_of};
 use crate::running::read_side::ReadSide;
 use crate::running::rows::{Carrier, Started, Way};
 use crate::running::sender::Sender;
+use crate::running::spelling::Spelling;
 use crate::running::waiting::Waiting;
-use bytes::Bytes;
 use std::alloc::Global;
 use zre_journal::Config;
 use zre_node::Node;
@@ -80,24 +80,24 @@ fn spelled(
     started: &Started,
     link: u64,
     part: Part,
-) -> Result<Option<Bytes>, OutOfMemory>
+) -> Result<Option<Spelling>, OutOfMemory>
     ensures { IfOk result (IsSpelled started.now link part) }
 {
     match part {
-        Part::Greeting => Ok(Some(Bytes::copy_from_slice(alloc, &greeting())?)),
+        Part::Greeting => Ok(Some(Spelling::copy(alloc, &greeting())?)),
         Part::Ready => {
             let octets = ready(alloc, SocketType::Dealer, Some(started.id))?;
-            Ok(Some(Bytes::copy_from_slice(alloc, octets.as_slice())?))
+            Ok(Some(Spelling::copy(alloc, octets.as_slice())?))
         }
         Part::Message { number } => started.sender.lines.message(alloc, link, number),
     }
 }
 
 // A connection is made to carry these octets.
-fn load(carrier: &mut Carrier, octets: Bytes) -> Result<(), OutOfMemory>
+fn load(carrier: &mut Carrier, octets: Spelling) -> Result<(), OutOfMemory>
     ensures { OnOk result (IsLoaded carrier.old octets carrier.new) }
 {
-    carrier.waiting.push(octets)
+    carrier.waiting.add(octets)
 }
 
 impl Network {
@@ -210,7 +210,7 @@ impl Network {
     }
 
     // The octets of a part of a link, where it has that part.
-    fn spelled(&self, along: Way, part: Part) -> Result<Option<Bytes>, OutOfMemory>
+    fn spelled(&self, along: Way, part: Part) -> Result<Option<Spelling>, OutOfMemory>
         ensures { IfOk result (IsSpelledAt (nth_of along.start self.now.started.items) along.link part) }
     {
         match nth(self.started.as_slice(), along.start) {

@@ -1,6 +1,6 @@
 //! One entry of a node, and what comes of it: what it tells, the beacons that it sends, and the links that it makes.
 
-ghost use Rattle.std.specs.Prelude.{◌≡◌, ◌+◌, ◌++◌, ◌∷◌, [], List, Some, map, max, IfOk, OnOk};
+ghost use Rattle.std.specs.Prelude.{◌≡◌, ◌+◌, ◌++◌, ◌∷◌, [], List, Some, map, IfOk, OnOk};
 ghost use Rattle.std.specs.List.{filter_map};
 ghost use Rattle.zre_outside.specs.declared.entry.Entry.{Entry as EntryValue};
 ghost use Rattle.zre_values.specs.declared.settings.Settings.{Settings as Config};
@@ -10,7 +10,6 @@ ghost use Rattle.zre_net.specs.declared.moves.Move.{Move};
 ghost use Rattle.zre_net.specs.History.{Happening, Happens, Incarnation, incarnations, chronicle_of};
 ghost use Rattle.zre_net.specs.Comes.{turn_of};
 ghost use Rattle.zre_net.specs.Lists.{nth as nth_of};
-ghost use Rattle.zre_net.specs.Lines.{octets_in};
 ghost use Rattle.zre_net.specs.Sender.{is_slight};
 ghost use Rattle.zre_net.specs.Sending.{HasSent};
 ghost use Rattle.zre_net.specs.Rows.{sent_in, way_in, entry_at, Turned, StaysAt};

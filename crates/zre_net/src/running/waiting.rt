@@ -1,7 +1,8 @@
 //! What a connection has yet to hand in.
 
-ghost use Rattle.std.specs.Prelude.{◌≡◌, ◌++◌, ◌≤◌, [], length, take, drop, OnOk, OnErr, IfOk};
+ghost use Rattle.std.specs.Prelude.{◌≡◌, ◌++◌, ◌≤◌, [], length, take, drop, OnOk, IfOk};
 
+use crate::running::spelling::Spelling;
 use bytes::Bytes;
 use std::alloc::Global;
 use std::collections::VecDeque;
@@ -51,16 +52,28 @@ impl Waiting {
         self.count
     }
 
-    /// One part more waits.
-    pub fn push(&mut self, part: Bytes) -> Result<(), OutOfMemory>
-        ensures { OnOk result (self.new ≡ self.old ++ part) }
+    // Some octets more wait.
+    fn push(&mut self, octets: Bytes) -> Result<(), OutOfMemory>
+        ensures { OnOk result (self.new ≡ self.old ++ octets) }
     {
-        let Some(count) = self.count.checked_add(part.len() as u64) else {
+        if octets.is_empty() {
+            return Ok(());
+        }
+        let Some(count) = self.count.checked_add(octets.len() as u64) else {
             return Err(OutOfMemory);
         };
-        self.parts.push_back(part)?;
+        self.parts.push_back(octets)?;
         self.count = count;
         Ok(())
+    }
+
+    /// One part more waits.
+    pub fn add(&mut self, part: Spelling) -> Result<(), OutOfMemory>
+        ensures { OnOk result (self.new ≡ self.old ++ part) }
+    {
+        let (own, shared) = part.apart();
+        self.push(own)?;
+        self.push(shared)
     }
 
     // Where the part at the front is taken whole, the next one stands there.

@@ -14,7 +14,7 @@ returns-in_default-2 c = λ H s. refused (move.Carry c.args.conn c.args.part) H 
 pub returns : goal.returns
 returns c = λ H s.
     let q = c.in-Some-checked_add.ensures in
-    let n = c.len-2.ensures.value in
+    let n = c.len-2.ensures in
     carry_played H c.args.self.now s c.args.conn c.args.part c.in-Some.carrier.now (sym (c.in-Some.ensures ∙ ap (nth c.args.conn) c.as_slice.ensures.value)) c.in-Some-2.octets
     (subst (λ (o : Option (List ℕ)). IsSpelledAt (nth c.in-Some.carrier.now.along.start c.args.self.now.started.items) c.in-Some.carrier.now.along.link c.args.part o) c.in-Some-2.is c.in_ok-octets.ensures)
     c.in_ok-place.place c.index_mut.result.now c.load.new.carrier _ c.in_ok-place.ensures.0 (there c.args.self.now.conns.items c.in_ok-place.place _ (let n = c.len.ensures in let z = c.in_ok-place.ensures.1 in let o = c.args.self.now.conns.ok.0 in omega (arith, n, z, o)) ∙ ap (λ x. Some x) (sym c.index_mut.ensures.value)) c.in_ok-load.ensures

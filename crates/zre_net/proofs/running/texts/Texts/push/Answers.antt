@@ -6,9 +6,11 @@ use Rattle.zre_net.proofs.running.texts.Texts.push.Goals as goal
 
 pub returns-clause-ok : goal.returns-clause-ok
 returns-clause-ok c = on_ok c.push.result c.push.ensures.ok (λ e.
-    ap (map (text_at c.put.new.short c.put.new.long)) e ∙ more_texts _ _ _ _ c.args.text c.in_ok-place.place c.in_ok-place.ensures.ok c.self.inside.places c.self.invariant
-    ∙ ap (λ ts. ts ++ c.args.text ∷ []) c.self.view_is)
+    ap (map (text_at c.put.new.short c.put.new.long)) e
+    ∙ more_texts _ _ _ _ (record { octets = c.args.text; at = c.args.at }) c.in_ok-place.place c.in_ok-place.ensures.ok c.self.inside.places c.self.invariant
+    ∙ ap (λ ts. ts ++ record { octets = c.args.text; at = c.args.at } ∷ []) c.self.view_is)
 
 pub returns-clause-err : goal.returns-clause-err
 returns-clause-err c = on_error c.push.result c.push.ensures.err (λ e.
-    ap (map (text_at c.put.new.short c.put.new.long)) e ∙ same_texts _ _ _ _ c.args.text c.in_ok-place.place c.in_ok-place.ensures.ok c.self.inside.places c.self.invariant ∙ c.self.view_is)
+    ap (map (text_at c.put.new.short c.put.new.long)) e
+    ∙ same_texts _ _ _ _ (record { octets = c.args.text; at = c.args.at }) c.in_ok-place.place c.in_ok-place.ensures.ok c.self.inside.places c.self.invariant ∙ c.self.view_is)
