@@ -1,14 +1,14 @@
 -- Where nothing but clients fails, a gate does all that it is asked for, unless memory runs out.
-use Rattle.std.proofs.Common.{◌≡◌, ℕ, ◌<◌, Bool, false, List, [], ◌∷◌, map, Option, Some, None, inl, inr, refl, sym, subst, arith}
+use Rattle.std.proofs.Common.{◌≡◌, ℕ, ◌<◌, Bool, false, List, [], map, Option, Some, None, inl, inr, refl, sym, subst, arith}
 use Rattle.std.specs.Prelude.{All}
 use Rattle.std.proofs.KnownBytes.{Appends-nil}
 use Rattle.std.proofs.lemmas.List.Elements.{All-contains}
 use Rattle.zre_outside.specs.Desks.{Register}
 use Rattle.zre_commands.specs.declared.pump.status.Status.{Status}
 use Rattle.zre_commands.specs.declared.pump.status.Status.TheVariants.{Done, Usage, BadInput, ReadFault, WriteFault, WorldFault, NoThread, TooLong, OutOfMemory, DeskFault}
-use Rattle.zre_chat.specs.Chat.{Seen}
-use Rattle.zre_chat.proofs.Rows.{memory_isnt}
-use Rattle.zre_chat.proofs.ChatOfParts.{none_started}
+use Rattle.zre_console.specs.Lived.{Seen}
+use Rattle.zre_console.proofs.LeastStatus.{memory_isnt}
+use Rattle.zre_console.proofs.Unstarted.{none_started}
 use Rattle.zre_gate.specs.Clients.{ClientRow}
 use Rattle.zre_gate.specs.Gate.{Client, IsCaused, IsGate}
 use Rattle.zre_gate.specs.declared.gate.Gate.{Gate}
@@ -50,7 +50,7 @@ nothing_gated look (Some g) limit told s desk returned none = record {
   begun = false;
   is_told = not_attended g.local told;
   opened = λ is. absurd (memory_isnt is);
-  gate = subst (λ xs. IsGate g.chat.config g.chat.start g.chat.capture limit g.clients s s desk [] (map look xs) OutOfMemory) (sym none)
-      (unopened g.chat.config g.chat.start g.chat.capture limit g.clients s s desk [] false OutOfMemory (λ isnt. absurd (isnt refl)) refl (none_started s.told)
+  gate = subst (λ xs. IsGate g.config g.start g.capture limit g.clients s s desk [] (map look xs) OutOfMemory) (sym none)
+      (unopened g.config g.start g.capture limit g.clients s s desk [] false OutOfMemory (λ isnt. absurd (isnt refl)) refl (none_started s.told)
       memory_isnt tt (λ file is isnt still. absurd (isnt refl)));
 }

@@ -1,4 +1,5 @@
 pub mod Complete
+mod Doing
 pub mod CompleteGate
 pub mod KeyPairs
 pub mod Ledgers

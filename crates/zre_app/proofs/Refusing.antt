@@ -1,11 +1,11 @@
 -- What a command that reads, and one that doesn't, say of refused reads.
 use Rattle.std.proofs.Common.{◌≡◌, ◌≢◌, Option, refl}
 use mathlib.Core.Logic.{inl, inr}
-use Rattle.zre_outside.specs.Refusals.{Refusals, RefusesNone, RefusesLast}
+use Rattle.zre_outside.specs.Refusals.{Refusals}
 use Rattle.zre_commands.specs.declared.pump.status.Status.{Status}
 use Rattle.zre_commands.specs.declared.pump.status.Status.TheVariants as statuses
 use Rattle.zre_commands.specs.pump.Outcome.{IsByRefusal}
-use Rattle.zre_chat.specs.Statuses.{IsFirst, IsReadSo, Yields}
+use Rattle.zre_console.specs.Statuses.{IsFirst, IsReadSo, Yields}
 
 pub nothing_read : (status : Status) (a : Option Refusals) → status ≢ statuses.ReadFault → IsByRefusal status a a
 nothing_read status a other = ((λ e. absurd (other e)), (λ n. refl))

@@ -4,9 +4,10 @@ use Rattle.std.proofs.KnownBytes.{Appends-nil, Consumes-nil}
 use Rattle.zre_commands.specs.pump.Meaning.{Meaning, whole_text}
 use Rattle.zre_commands.specs.pump.Outcome.{Pumped}
 use Rattle.zre_commands.specs.declared.pump.status.Status.TheVariants as statuses
-use Rattle.zre_chat.specs.Chat.{Seen}
-use Rattle.zre_chat.proofs.Rows.{memory_isnt}
-use Rattle.zre_chat.proofs.ChatOfParts.{unstarted, none_started}
+use Rattle.zre_console.specs.Lived.{Seen}
+use Rattle.zre_console.proofs.LeastStatus.{memory_isnt}
+use Rattle.zre_console.proofs.Unstarted.{none_started}
+use Rattle.zre_chat.proofs.ChatOfParts.{unstarted}
 use Rattle.zre_app.specs.declared.command.Command.{Command}
 use Rattle.zre_app.specs.declared.command.Command.TheVariants.{Plain, Chat}
 use Rattle.zre_app.specs.declared.plain_words.Plain.{Plain as PlainCommand}

@@ -8,7 +8,8 @@ use Rattle.zre_journal.specs.Happens.{has_stopped}
 use Rattle.zre_commands.specs.declared.pump.status.Status.{Status}
 use Rattle.zre_commands.specs.declared.pump.status.Status.TheVariants.{Done, OutOfMemory}
 use Rattle.zre_commands.specs.pump.Meaning.{whole_text}
-use Rattle.zre_chat.specs.Chat.{Seen, IsChat}
+use Rattle.zre_console.specs.Lived.{Seen}
+use Rattle.zre_chat.specs.Chat.{IsChat}
 use Rattle.zre_gate.specs.Clients.{ClientRow}
 use Rattle.zre_gate.specs.Gate.{Client, HasServed, IsGate}
 use Rattle.zre_gate.specs.declared.gate.Gate.{Gate}
@@ -61,8 +62,8 @@ abbrev pub CompletesGate : Option Gate → (limit : ℕ) → Status → Seen →
 CompletesGate None limit status s t desk = ⊤
 CompletesGate (Some g) limit status s t desk =
     (before after : List ClientRow)
-    (gate : IsGate g.chat.config g.chat.start g.chat.capture limit g.clients s t desk before after status)
+    (gate : IsGate g.config g.start g.capture limit g.clients s t desk before after status)
     (served : HasServed limit gate.lived.handed gate.lived.turns
-    (has_stopped (chronicle g.chat.config gate.lived.entries)) s t desk before after status)
+    (has_stopped (chronicle g.config gate.lived.entries)) s t desk before after status)
     → NoneRose s t → ¬ desk → All (IsBelow limit) served.clients → gate.lived.turns < limit
-    → WellOrShort status (Appends s.written t.written (lines (events g.chat.config gate.lived.entries)))
+    → WellOrShort status (Appends s.written t.written (lines (events g.config gate.lived.entries)))

@@ -18,7 +18,8 @@ use Rattle.zre_records.specs.table.Table.{table}
 use Rattle.zre_records.specs.audit.Audit.{audit}
 use Rattle.zre_records.specs.simulate.Simulate.{simulate}
 use Rattle.zre_commands.specs.exercise.Exercise.{text as exercise_text}
-use Rattle.zre_chat.specs.Chat.{Seen, IsChat}
+use Rattle.zre_console.specs.Lived.{Seen}
+use Rattle.zre_chat.specs.Chat.{IsChat}
 use Rattle.zre_app.specs.declared.command.Command.{Command}
 use Rattle.zre_app.specs.declared.command.Command.TheVariants as commands
 use Rattle.zre_app.specs.declared.plain_words.Plain.{Plain}

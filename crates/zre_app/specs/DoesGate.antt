@@ -2,7 +2,7 @@
 use Rattle.std.specs.Prelude.{ℕ, List, Option, Some, None}
 use Rattle.zre_outside.specs.Causes.{Rose}
 use Rattle.zre_outside.specs.Desks.{Register}
-use Rattle.zre_chat.specs.Chat.{Seen}
+use Rattle.zre_console.specs.Lived.{Seen}
 use Rattle.zre_commands.specs.declared.pump.status.Status.{Status}
 use Rattle.zre_gate.specs.Clients.{ClientRow}
 use Rattle.zre_gate.specs.Gate.{HasGated}
@@ -15,4 +15,4 @@ abbrev pub DoesGate : {C : Type 0} (look : C → ClientRow) → Option Gate → 
 DoesGate look None limit status told told' s t desk returned =
     UsageOutcome status s.written t.written (Rose s.write_faults t.write_faults)
 DoesGate look (Some g) limit status told told' s t desk returned =
-    HasGated look g.local told told' g.chat.config g.chat.start g.chat.capture limit g.clients s t desk returned status
+    HasGated look g limit told told' s t desk returned status

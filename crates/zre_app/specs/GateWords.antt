@@ -3,6 +3,7 @@ use Rattle.std.specs.Prelude.{◌≤◌, ℕ, ◌+◌, ◌==◌, Bool, List, [],
 use Rattle.std.specs.Prelude.{position, option_and_then, option_map, codes, if◌then◌else◌}
 use Rattle.zre_values.specs.declared.endpoint.Endpoint.{Endpoint}
 use Rattle.zre_capture.specs.Values.{address_of, number_of}
+use Rattle.zre_chat.specs.declared.chat.Chat.{Chat}
 use Rattle.zre_gate.specs.declared.gate.Gate.{Gate}
 use Rattle.zre_app.specs.ChatWords.{chat_keys, chat_in, CanChat}
 use Rattle.zre_app.specs.Keys.{are_words_of, value_of}
@@ -34,7 +35,13 @@ local_in words = option_and_then place_of (value_of (codes "local=") words)
 abbrev pub gate_in : List (List ℕ) → Option Gate
 gate_in words =
     option_and_then (λ chat. option_and_then (λ local. option_map
-    (λ clients. record { chat = chat; local = local; clients = clients })
+    (λ clients. record {
+      config = chat.config;
+      start = chat.start;
+      capture = chat.capture;
+      local = local;
+      clients = clients;
+    })
     (clients_in words)) (local_in words)) (chat_in words)
 
 -- a gate by the words after its name
@@ -49,8 +56,12 @@ is_gate words = is_named (codes "gate") words
 abbrev pub gate_of : List (List ℕ) → Option Gate
 gate_of words = option_and_then gate_with (after_name (codes "gate") words)
 
--- its chat can be, and there are so many clients
+-- the chat of the same node
+abbrev pub chat_beside : Gate → Chat
+chat_beside g = record { config = g.config; start = g.start; capture = g.capture }
+
+-- such a chat can be, and there are so many clients
 pub record CanGate (g : Gate) : Type 0 where
-  pub chat : CanChat g.chat
+  pub chat : CanChat (chat_beside g)
   pub some : 1 ≤ g.clients
   pub few : g.clients ≤ 14

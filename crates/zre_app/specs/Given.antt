@@ -1,7 +1,7 @@
 -- What is handed in to a call, and what is seen of it at one moment.
 use Rattle.std.specs.Prelude.{ℕ, List, Option}
 use Rattle.zre_outside.specs.Worlds.{Log}
-use Rattle.zre_chat.specs.Chat.{Seen, seen}
+use Rattle.zre_console.specs.Lived.{Seen, seen}
 
 -- what a source tells that is left and that was taken, what a sink tells that was written, and how often each failed
 pub record Streams : Type 0 where

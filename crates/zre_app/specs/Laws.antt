@@ -11,7 +11,8 @@ use Rattle.zre_capture.specs.declared.format.Format.TheVariants.{Second}
 use Rattle.zre_commands.specs.pump.Meaning.{whole_text}
 use Rattle.zre_commands.specs.declared.pump.status.Status.{Status}
 use Rattle.zre_records.specs.replay.Replay.{told_replay}
-use Rattle.zre_chat.specs.Chat.{Seen, IsChat, IsSpared, Holds}
+use Rattle.zre_console.specs.Lived.{Seen, IsSpared, Holds}
+use Rattle.zre_chat.specs.Chat.{IsChat}
 
 -- the capture of a node with these settings and of these entries
 abbrev pub kept_of : Config → List Entry → List ℕ

@@ -2,7 +2,7 @@
 
 ghost use Rattle.std.specs.Prelude.{◌≡◌, ◌≤◌, [], None, Some, option_and_then};
 ghost use Rattle.zre_outside.specs.Causes.{Rose};
-ghost use Rattle.zre_chat.specs.Statuses.{IsFirst, Yields};
+ghost use Rattle.zre_console.specs.Statuses.{IsFirst, Yields};
 ghost use Rattle.zre_commands.specs.declared.pump.status.Status.TheVariants.{DeskFault};
 ghost use Rattle.zre_gate.specs.Clients.{row};
 ghost use Rattle.zre_gate.specs.Gate.{seen_beside};
@@ -64,7 +64,7 @@ where
     // Where the words are no gate, what isn't used comes back as it was handed in.
     ensures unused { gate_of words.now ≡ None → (result.desk ≡ desk) × (result.clients.items ≡ [])
         × (result.world ≡ world) × (result.rec ≡ rec) × (P.faults spawner.new ≡ P.faults spawner.old) }
-    ensures unkept { option_and_then (λ g. g.chat.capture) (gate_of words.now) ≡ None → result.rec ≡ rec }
+    ensures unkept { option_and_then (λ g. g.capture) (gate_of words.now) ≡ None → result.rec ≡ rec }
     ensures later { (O.faults out.old ≤ O.faults out.new) × (P.faults spawner.old ≤ P.faults spawner.new) }
 {
     match gate_of(alloc, words) {

@@ -10,6 +10,7 @@ use crate::node_words::keys_of_node;
 use crate::words::{after_name, is_named};
 use std::alloc::Global;
 use zre_capture::{address, found, number};
+use zre_chat::Chat;
 use zre_gate::Gate;
 use zre_values::{Endpoint, Frames, Octets, OutOfMemory};
 
@@ -70,11 +71,17 @@ fn gate_in(alloc: Global, words: &[Octets]) -> Result<Option<Gate>, OutOfMemory>
     ensures value { IfOk result (λ gate. gate ≡ gate_in words.now) }
     ensures ready { IfOk result (λ gate. IfSome gate CanGate) }
 {
-    let chat = found!(chat_in(alloc, words)?);
+    let Chat {
+        config,
+        start,
+        capture,
+    } = found!(chat_in(alloc, words)?);
     let local = found!(local_in(words));
     let clients = found!(clients_in(words));
     Ok(Some(Gate {
-        chat,
+        config,
+        start,
+        capture,
         local,
         clients,
     }))

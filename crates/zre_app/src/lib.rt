@@ -21,6 +21,7 @@ pub use laws::kept_captures_are_replayed;
 pub use plain_commands::{PlainEnded, plain};
 pub use plain_words::Plain;
 pub use top::{LIMIT, run, zre};
-pub use zre_chat::{Chat, Ended};
+pub use zre_chat::Chat;
 pub use zre_commands::pump::Status;
+pub use zre_console::finishing::Ended;
 pub use zre_gate::GateEnded;

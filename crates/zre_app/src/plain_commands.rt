@@ -3,7 +3,7 @@
 ghost use Rattle.std.specs.Prelude.{◌≡◌, ◌≢◌, ◌≤◌, [], true, false, Some, IfSome};
 ghost use Rattle.zre_outside.specs.Causes.{Rose};
 ghost use Rattle.zre_values.specs.Settings.{is_valid};
-ghost use Rattle.zre_chat.specs.Statuses.{Yields};
+ghost use Rattle.zre_console.specs.Statuses.{Yields};
 ghost use Rattle.zre_commands.specs.declared.pump.status.Status.TheVariants.{ReadFault, WriteFault};
 ghost use Rattle.zre_commands.specs.pump.Outcome.{IsByRefusal};
 ghost use Rattle.zre_commands.specs.exercise.Exercise.{text as exercise_text};
@@ -36,9 +36,12 @@ pub struct PlainEnded<I> {
     pub input: I,
 }
 
+// Writes how the program is called.
 pub(crate) fn usage<O: Sink>(out: &mut O) -> Status
+    // What was written, and the status.
     ensures written { UsageOutcome result (O.written out.old) (O.written out.new)
         (Rose (O.faults out.old) (O.faults out.new)) }
+    // Where the sink refused a call, that is the status, unless memory ran out; nothing is read.
     ensures first { Yields result WriteFault (O.refused out.new ≡ O.refused out.old) }
     ensures unread { result ≢ ReadFault }
     ensures writes { O.faults out.old ≤ O.faults out.new }

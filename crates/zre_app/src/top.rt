@@ -5,7 +5,7 @@ ghost use Rattle.zre_app.specs.Complete.{Completes};
 ghost use Rattle.zre_app.specs.Does.{Did, KeepsItsLedgers};
 ghost use Rattle.zre_app.specs.Given.{handed, seen_of, stream_views, views};
 ghost use Rattle.std.specs.Prelude.{◌≡◌, true};
-ghost use Rattle.zre_chat.specs.Statuses.{IsFirst, IsReadSo};
+ghost use Rattle.zre_console.specs.Statuses.{IsFirst, IsReadSo};
 ghost use Rattle.zre_app.specs.Words.{command_of, is_chat};
 
 use crate::chat_words::chat_of;
@@ -14,8 +14,8 @@ use crate::plain_commands::{PlainEnded, plain, usage};
 use std::alloc::Global;
 use std::sync::Wait;
 use std::thread::Threads;
-use zre_chat::Ended;
 use zre_commands::pump::Status;
+use zre_console::finishing::Ended;
 use zre_outside::{Recorder, Sink, Source, Spawner, World};
 use zre_values::{Frames, OutOfMemory};
 
@@ -62,39 +62,6 @@ pub fn run<
         (seen_of (views (stream_views I.left I.taken I.faults O.written O.faults)
         W.told W.faults R.kept R.named R.faults P.faults)
         (handed result.input result.world out.new result.rec spawner.new)) }
-{
-    dispatch(rt, alloc, words, input, world, out, rec, spawner, limit)
-}
-
-// The plain command, or the chat, that the words are.
-fn dispatch<
-    T: Wait + Threads + Copy,
-    I: Source + Send + Drop + 'static,
-    W: World + Send + Drop + 'static,
-    O: Sink,
-    R: Recorder + Send + Drop + 'static,
-    P: Spawner,
->(
-    rt: T,
-    alloc: Global,
-    words: &Frames,
-    input: I,
-    world: W,
-    out: &mut O,
-    rec: R,
-    spawner: &mut P,
-    limit: u64,
-) -> Ended<I, W, R>
-    ensures does { Did (views (stream_views I.left I.taken I.faults O.written O.faults)
-        W.told W.faults R.kept R.named R.faults P.faults)
-        (command_of words.now) limit result.status (handed input world out.old rec spawner.old)
-        (handed result.input result.world out.new result.rec spawner.new) }
-    // Where what is handed in tells the calls that it refused, nothing more is read after a refused read, and the
-    // status of a chat is the first of what occurred.
-    ensures read { IsReadSo result.status (I.refused input) (I.refused result.input) }
-    ensures first { is_chat words.now ≡ true → IsFirst result.status (O.refused out.new ≡ O.refused out.old)
-        (R.refused result.rec ≡ R.refused rec) (W.refused result.world ≡ W.refused world)
-        (P.faults spawner.new ≡ P.faults spawner.old) }
 {
     if !is_chat(words) {
         let PlainEnded { status, input } = plain(alloc, words, input, out, limit);

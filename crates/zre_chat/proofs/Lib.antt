@@ -1,11 +1,2 @@
-pub mod SecondCaller
-pub mod Callers
-pub mod PreparingFailed
-pub mod First
-pub mod Fronts
-pub mod NodeThread
-pub mod Merged
-pub mod Parts
-pub mod Rows
-pub mod Talked
 pub mod ChatOfParts
+pub mod Talked

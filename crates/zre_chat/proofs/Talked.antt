@@ -1,5 +1,5 @@
 -- A chat whose threads were started.
-use Rattle.std.proofs.Common.{◌≡◌, ◌≢◌, ℕ, Bool, true, List, [], ◌∷◌, ◌++◌, map, length, Option, Some, None, refl, sym, ap, ◌∙◌, subst, arith, ◌<◌}
+use Rattle.std.proofs.Common.{◌≡◌, ◌≢◌, ℕ, Bool, true, List, [], ◌∷◌, ◌++◌, map, length, Option, Some, None, sym, ap, ◌∙◌, subst, arith, ◌<◌}
 use Rattle.std.specs.Prelude.{◌⊎◌}
 use mathlib.Core.Logic.{inl, inr}
 use mathlib.Core.List.{IsPrefix}
@@ -32,17 +32,18 @@ use Rattle.zre_console.specs.reader.Reading.{HasRead, Outcome, BreaksOff}
 use Rattle.zre_commands.specs.declared.pump.status.Status.{Status}
 use Rattle.zre_commands.specs.declared.pump.status.Status.TheVariants.{Done, ReadFault, OutOfMemory}
 use Rattle.zre_console.specs.printer.Asking.{asked, asker_of}
-use Rattle.zre_chat.specs.Chat.{Seen, IsChat, IsCaused, HasEnded}
+use Rattle.zre_console.specs.Lived.{Seen}
+use Rattle.zre_chat.specs.Chat.{IsChat, IsCaused, HasEnded}
 use Rattle.zre_console.specs.printer.Printing.{HasPrinted}
-use Rattle.zre_chat.specs.Stages.{Prepared}
-use Rattle.zre_chat.specs.Statuses.{least, of_read, of_print, of_work, of_thread}
-use Rattle.zre_chat.proofs.Fronts.{prefix_trans, quits_through, all_front, none_front, short_front, breaks_front, breaks_by}
-use Rattle.zre_chat.proofs.Merged.{all_under}
-use Rattle.zre_chat.proofs.SecondCaller.{asked_few, asker_put}
-use Rattle.zre_chat.proofs.First.{least_holds, rest_holds}
-use Rattle.zre_chat.proofs.NodeThread as living
-use Rattle.zre_chat.proofs.Parts as parts
-use Rattle.zre_chat.proofs.Parts.{read_ended}
+use Rattle.zre_console.specs.Stages.{Prepared}
+use Rattle.zre_console.specs.Statuses.{least, of_read, of_print, of_work, of_thread}
+use Rattle.zre_console.proofs.Fronts.{prefix_trans, quits_through, all_front, none_front, short_front, breaks_front, breaks_by}
+use Rattle.zre_console.proofs.Popped.{all_under}
+use Rattle.zre_console.proofs.SecondCaller.{asked_few, asker_put}
+use Rattle.zre_console.proofs.First.{least_holds, rest_holds}
+use Rattle.zre_console.proofs.NodeThread as living
+use Rattle.zre_console.proofs.Parts as parts
+use Rattle.zre_console.proofs.Parts.{read_ended}
 use Rattle.zre_chat.proofs.ChatOfParts.{IsThrough, HasFound, read_orders, read_front, only, most}
 
 module _ (g : Config) (start : Start) (name : Option (List ℕ)) (keep : Bool) (limit : ℕ) (s u t : Seen) (p : Prepared g start name keep s u)

@@ -1,5 +1,1 @@
 pub mod Chat
-pub mod Keeping
-pub mod Stages
-pub mod Statuses
-pub mod Tables

@@ -5,21 +5,24 @@ ghost use Rattle.std.specs.Str.{is_utf8};
 ghost use Rattle.zre_outside.specs.Causes.{Rose};
 ghost use Rattle.zre_values.specs.Settings.{is_valid};
 ghost use Rattle.zre_node.specs.Journal.{StandsFor};
-ghost use Rattle.zre_chat.specs.Chat.{IsChat, seen};
-ghost use Rattle.zre_chat.specs.Stages.{HasOpened, Unprepared};
-ghost use Rattle.zre_chat.specs.Statuses.{IsFirst, IsReadSo, Yields};
-ghost use Rattle.zre_chat.specs.Tables.{IsLaid, HasMore};
 ghost use Rattle.zre_commands.specs.declared.pump.status.Status.TheVariants.{ReadFault, WriteFault, WorldFault};
+ghost use Rattle.zre_console.specs.Lived.{seen};
+ghost use Rattle.zre_console.specs.Stages.{HasOpened, Unprepared};
+ghost use Rattle.zre_console.specs.Statuses.{IsFirst, IsReadSo, Yields};
+ghost use Rattle.zre_console.specs.Tables.{IsLaid, HasMore};
+ghost use Rattle.zre_chat.specs.Chat.{IsChat};
 
-use crate::entering::enter;
-use crate::keeping::begin;
-use crate::places::NodeWork;
-use crate::table::Table;
-use crate::values::are_values;
+use crate::threads::ChatTable;
 use std::alloc::Global;
 use std::sync::Wait;
 use std::thread::Threads;
 use zre_commands::pump::Status;
+use zre_console::entering::enter;
+use zre_console::finishing::Ended;
+use zre_console::keeping::begin;
+use zre_console::places::NodeWork;
+use zre_console::table::Table;
+use zre_console::values::are_values;
 use zre_journal::Config;
 use zre_outside::{Recorder, Sink, Source, Spawner, Start, World};
 use zre_values::Octets;
@@ -33,15 +36,6 @@ pub struct Chat {
     pub start: Start,
     /// The name under which a capture of its journal, of format 2, is kept, if it is to be kept.
     pub capture: Option<Octets>,
-}
-
-/// How a call ended, and what was handed in, as it was left.
-#[derive(Debug, Drop)]
-pub struct Ended<I, W, R> {
-    pub status: Status,
-    pub input: I,
-    pub world: W,
-    pub rec: R,
 }
 
 impl Chat {
@@ -92,14 +86,15 @@ impl Chat {
         let keep = self.capture.is_some();
         let (mut world, mut rec) = (world, rec);
         match prepare(alloc, self, &mut world, &mut rec) {
-            Ok(table) => {
+            Ok(base) => {
                 let work = NodeWork {
                     world,
                     rec,
                     keep,
                     limit,
                 };
-                table.converse(rt, alloc, input, work, out, spawner)
+                let table = ChatTable { base, input };
+                table.converse(rt, alloc, work, out, spawner)
             }
             Err(status) => Ended {
                 status,

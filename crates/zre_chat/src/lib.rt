@@ -3,15 +3,6 @@
 #![tactic(auto)]
 
 mod chat;
-pub mod entering;
-pub mod finishing;
-pub mod keeping;
-pub mod places;
-pub mod starting;
-pub mod statuses;
-pub mod table;
-pub mod talk;
 mod threads;
-pub mod values;
 
-pub use chat::{Chat, Ended};
+pub use chat::Chat;

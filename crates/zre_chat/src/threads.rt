@@ -5,51 +5,56 @@ ghost use Rattle.zre_outside.specs.declared.start.Start.{Start as StartValue};
 ghost use Rattle.zre_values.specs.declared.settings.Settings.{Settings as ConfigValue};
 ghost use Rattle.zre_node.specs.Journal.{StandsFor};
 ghost use Rattle.zre_actor.specs.Passes.{number};
-ghost use Rattle.zre_chat.specs.Chat.{IsChat, Seen, seen};
-ghost use Rattle.zre_chat.specs.Stages.{Prepared};
-ghost use Rattle.zre_chat.specs.Statuses.{IsFirst, IsReadSo};
-ghost use Rattle.zre_chat.specs.Tables.{IsLaid};
+ghost use Rattle.zre_console.specs.Lived.{Seen, seen};
+ghost use Rattle.zre_console.specs.Stages.{Prepared};
+ghost use Rattle.zre_console.specs.Statuses.{IsFirst, IsReadSo};
+ghost use Rattle.zre_console.specs.Tables.{IsLaid};
+ghost use Rattle.zre_chat.specs.Chat.{IsChat};
 
-use crate::chat::Ended;
-use crate::finishing::{Read, settle};
-use crate::places::NodeWork;
-use crate::starting::start_node;
-use crate::statuses::of_read;
-use crate::table::Table;
-use crate::talk::Talk;
 use std::alloc::Global;
 use std::sync::Wait;
 use std::thread::Threads;
 use zre_commands::pump::Status;
+use zre_console::finishing::{Ended, Read, settle};
+use zre_console::places::NodeWork;
 use zre_console::reader::ReaderJob;
+use zre_console::starting::start_node;
+use zre_console::statuses::of_read;
+use zre_console::table::Table;
+use zre_console::talk::Talk;
 use zre_outside::{Recorder, Sink, Source, Spawner, World};
 
-impl Table {
+/// What the threads of a chat are given, and its input.
+#[derive(Drop)]
+pub(crate) struct ChatTable<I> {
+    pub base: Table,
+    pub input: I,
+}
+
+impl<I: Source + Send + Drop + 'static> ChatTable<I> {
     /// Starts the node's thread and the reader's, prints, and waits for both.
-    pub(crate) fn converse<I, W, O, R, P, T>(
+    pub(crate) fn converse<W, O, R, P, T>(
         self,
         rt: T,
         alloc: Global,
-        input: I,
         work: NodeWork<W, R>,
         out: &mut O,
         spawner: &mut P,
     ) -> Ended<I, W, R>
     where
-        I: Source + Send + Drop + 'static,
         W: World + Send + Drop + 'static,
         O: Sink,
         R: Recorder + Send + Drop + 'static,
         P: Spawner,
         T: Wait + Threads + Copy,
         // The pipes are laid, and the capture is begun where one is kept.
-        requires laid { IsLaid 0 self }
-        requires apart { number self.others.last.pass ≢ number self.others.printer.asker }
+        requires laid { IsLaid 0 self.base }
+        requires apart { number self.base.others.last.pass ≢ number self.base.others.printer.asker }
         requires begun { work.keep ≡ true → R.begun work.rec ≡ true }
         // What was read, given, done, written and kept, and the status.
         ensures chat { (g : ConfigValue) (start : StartValue) (name : Option (List ℕ)) (s : Seen)
-            → StandsFor g [] self.node_args.node →
-            Prepared g start name work.keep s (seen (I.left input) (I.taken input) (I.faults input)
+            → StandsFor g [] self.base.node_args.node →
+            Prepared g start name work.keep s (seen (I.left self.input) (I.taken self.input) (I.faults self.input)
             (W.told work.world) (W.faults work.world) (O.written out.old) (O.faults out.old)
             (R.kept work.rec) (R.named work.rec) (R.faults work.rec) (P.faults spawner.old)) →
             IsChat g start name work.limit s
@@ -61,13 +66,14 @@ impl Table {
         ensures first { IsFirst result.status (O.refused out.new ≡ O.refused out.old)
             (R.refused result.rec ≡ R.refused work.rec) (W.refused result.world ≡ W.refused work.world)
             (P.faults spawner.new ≡ P.faults spawner.old) }
-        ensures read { IsReadSo result.status (I.refused input) (I.refused result.input) }
+        ensures read { IsReadSo result.status (I.refused self.input) (I.refused result.input) }
         // What isn't used comes back as it was; counts of faults never fall.
         ensures unkept { work.keep ≡ false → result.rec ≡ work.rec }
-        ensures later { (I.faults input ≤ I.faults result.input) × (O.faults out.old ≤ O.faults out.new)
+        ensures later { (I.faults self.input ≤ I.faults result.input) × (O.faults out.old ≤ O.faults out.new)
             × (P.faults spawner.old ≤ P.faults spawner.new) }
     {
-        let Table { node_args, others } = self;
+        let ChatTable { base, input } = self;
+        let Table { node_args, others } = base;
         let limit = work.limit;
         let working = match start_node(spawner, node_args, work) {
             Ok(working) => working,

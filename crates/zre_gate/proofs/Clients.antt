@@ -18,7 +18,7 @@ use Rattle.zre_console.specs.declared.reader.ending.InputEnd.TheVariants as end
 use Rattle.zre_console.specs.reader.Putting.{IsShort}
 use Rattle.zre_console.specs.reader.Reading.{LinesOutcome, EndsByRefusal}
 use Rattle.zre_commands.specs.declared.pump.status.Status.TheVariants.{Done, TooLong, OutOfMemory}
-use Rattle.zre_chat.proofs.Fronts.{prefix_self, prefix_trans, short_front}
+use Rattle.zre_console.proofs.Fronts.{prefix_self, prefix_trans, short_front}
 use Rattle.zre_gate.specs.Clients.{Served, IsServed, is_over, of_client}
 use Rattle.zre_gate.specs.Gate.{Client, IsClient, IsWhole, IsFree, IsLong}
 

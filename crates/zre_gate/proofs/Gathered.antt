@@ -14,8 +14,8 @@ use Rattle.zre_console.specs.reader.Putting as putting
 use Rattle.zre_console.proofs.reader.Puts.{puts-none}
 use Rattle.zre_commands.specs.declared.pump.status.Status.{Status}
 use Rattle.zre_commands.specs.declared.pump.status.Status.TheVariants.{Done, TooLong, OutOfMemory}
-use Rattle.zre_chat.specs.Statuses.{least}
-use Rattle.zre_chat.proofs.Rows.{memory_here}
+use Rattle.zre_console.specs.Statuses.{least}
+use Rattle.zre_console.proofs.LeastStatus.{memory_here}
 use Rattle.zre_gate.specs.Clients.{ClientRow, Served, IsServed, put_for, put_for_all, after_of, is_over, of_client}
 use Rattle.zre_gate.specs.Gathering.{IsOwnEnd, IsWell, Ends, Gathers, Closes}
 use Rattle.zre_gate.specs.ClientLists.{ClientList, NewClient, IsAnswer, number_of, new_client_at, new_client_of}

@@ -35,14 +35,14 @@ use Rattle.zre_commands.specs.declared.pump.status.Status.{Status}
 use Rattle.zre_commands.specs.declared.pump.status.Status.TheVariants.{Done, TooLong, OutOfMemory, DeskFault}
 use Rattle.zre_console.specs.printer.Asking.{asked, asker_of}
 use Rattle.zre_console.specs.printer.Printing.{HasPrinted}
-use Rattle.zre_chat.specs.Chat.{Seen}
-use Rattle.zre_chat.specs.Stages.{Prepared}
-use Rattle.zre_chat.specs.Statuses.{rank, least, of_print, of_work, of_thread}
-use Rattle.zre_chat.proofs.First.{least_holds, rest_holds}
-use Rattle.zre_chat.proofs.SecondCaller.{asked_few, asker_put}
-use Rattle.zre_chat.proofs.NodeThread as living
-use Rattle.zre_chat.proofs.Merged.{all_under}
-use Rattle.zre_chat.proofs.Parts as parts
+use Rattle.zre_console.specs.Lived.{Seen}
+use Rattle.zre_console.specs.Stages.{Prepared}
+use Rattle.zre_console.specs.Statuses.{rank, least, of_print, of_work, of_thread}
+use Rattle.zre_console.proofs.First.{least_holds, rest_holds}
+use Rattle.zre_console.proofs.SecondCaller.{asked_few, asker_put}
+use Rattle.zre_console.proofs.NodeThread as living
+use Rattle.zre_console.proofs.Popped.{all_under}
+use Rattle.zre_console.proofs.Parts as parts
 use Rattle.zre_gate.specs.Clients.{ClientRow, Served, IsServed, put_for_all}
 use Rattle.zre_gate.specs.Clients as clients
 use Rattle.zre_gate.specs.Gate.{Client, IsClient, IsWhole, IsFree, IsLong, IsCaused, Merged, HasServed, IsGate, before_of, after_of, handed_of}

@@ -39,15 +39,16 @@ new_clients_of (n ∷ ns) [] = []
 new_clients_of (n ∷ ns) (r ∷ rs) = new_client n r ∷ new_clients_of ns rs
 
 abbrev pub client_list_of : Pipes → ℕ → List ℕ → List ClientRow → ClientList
-client_list_of pipes limit numbers rows = record { pipes = pipes; limit = limit; new_clients = new_clients_of numbers rows }
+client_list_of pipes limit numbers rows =
+    record { pipes = pipes; limit = limit; new_clients = new_clients_of numbers rows }
 
 -- as it came
 abbrev pub new_client_of : Served → NewClient
 new_client_of x = new_client x.number x.before
 
 -- a client at a place of a client_list, with a pass under which nothing was put
-pub record IsNewClient (client_list : Option ClientList) (pipes : Pipes) (limit place : ℕ) (pass : CallerPass) (before : ClientRow)
-    : Type 0 where
+pub record IsNewClient (client_list : Option ClientList) (pipes : Pipes) (limit place : ℕ) (pass : CallerPass)
+    (before : ClientRow) : Type 0 where
   pub there : ClientList
   pub is_client_list : client_list ≡ Some there
   pub same_pipes : pipes ≡ there.pipes
@@ -57,8 +58,8 @@ pub record IsNewClient (client_list : Option ClientList) (pipes : Pipes) (limit 
   pub is_new : IsNew pass
 
 -- the client at a place of a client_list was read, and this pass has what was put for it
-pub record IsAnswer (client_list : Option ClientList) (place : ℕ) (after : ClientRow) (pass : CallerPass) (end : InputEnd)
-    : Type 0 where
+pub record IsAnswer (client_list : Option ClientList) (place : ℕ) (after : ClientRow) (pass : CallerPass)
+    (end : InputEnd) : Type 0 where
   pub there : ClientList
   pub is_client_list : client_list ≡ Some there
   pub served : Served

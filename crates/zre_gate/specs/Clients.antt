@@ -11,7 +11,7 @@ use Rattle.zre_console.specs.declared.reader.ending.InputEnd.TheVariants as end
 use Rattle.zre_console.specs.reader.Reading.{LinesOutcome, EndsByRefusal}
 use Rattle.zre_commands.specs.declared.pump.status.Status.{Status}
 use Rattle.zre_commands.specs.declared.pump.status.Status.TheVariants.{Done}
-use Rattle.zre_chat.specs.Statuses.{of_read}
+use Rattle.zre_console.specs.Statuses.{of_read}
 
 -- what a client tells that is left and that was taken, how often it failed, and the reads that it refused
 pub record ClientRow : Type 0 where

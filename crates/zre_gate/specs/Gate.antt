@@ -22,8 +22,9 @@ use Rattle.zre_commands.specs.declared.pump.status.Status.{Status}
 use Rattle.zre_commands.specs.declared.pump.status.Status.TheVariants.{Done, Usage, BadInput, ReadFault, WriteFault}
 use Rattle.zre_commands.specs.declared.pump.status.Status.TheVariants.{WorldFault, NoThread, TooLong, OutOfMemory}
 use Rattle.zre_commands.specs.declared.pump.status.Status.TheVariants.{DeskFault}
-use Rattle.zre_chat.specs.Chat.{Seen, seen, Lived, Wrote, Captured}
+use Rattle.zre_console.specs.Lived.{Seen, seen, Lived, Wrote, Captured}
 use Rattle.zre_gate.specs.Clients.{ClientRow}
+use Rattle.zre_gate.specs.declared.gate.Gate.{Gate}
 use Rattle.zre_gate.specs.Interleaving.{IsInterleaving}
 
 -- what is seen of all that a gate works with but the clients and the desk, at one moment
@@ -137,12 +138,12 @@ attended begun place given r = record {
   given = r.given ++ given;
 }
 
--- the same, with the clients that the desk gave and what it tells
-pub record HasGated {C : Type 0} (look : C → ClientRow) (place : Endpoint) (told told' : Option (Register C))
-    (g : Config) (start : Start) (name : Option (List ℕ)) (limit many : ℕ) (s t : Seen) (desk : Type 0)
-    (returned : List C) (status : Status) : Type 0 where
+-- the same of what a gate is asked for, with the clients that the desk gave and what it tells
+pub record HasGated {C : Type 0} (look : C → ClientRow) (plan : Gate) (limit : ℕ) (told told' : Option (Register C))
+    (s t : Seen) (desk : Type 0) (returned : List C) (status : Status) : Type 0 where
   pub given : List C
   pub begun : Bool
-  pub is_told : told' ≡ option_map (attended begun place given) told
+  pub is_told : told' ≡ option_map (attended begun plan.local given) told
   pub opened : status ≡ Done → begun ≡ true
-  pub gate : IsGate g start name limit many s t desk (map look given) (map look returned) status
+  pub gate : IsGate plan.config plan.start plan.capture limit plan.clients s t desk (map look given)
+      (map look returned) status

@@ -26,8 +26,8 @@ pub record Ends (served : List Served) (status : Status) : Type 0 where
       ⊎ ((status ≡ TooLong) × (x : Served) × Contains served x × (x.end ≡ end.TooLong)))
 
 -- these clients were waited for, and a pass absorbed theirs
-pub record Gathers (limit : ℕ) (new_clients : List NewClient) (afters : List ClientRow) (old new : CallerPass) (status : Status)
-    (over : Bool) : Type 0 where
+pub record Gathers (limit : ℕ) (new_clients : List NewClient) (afters : List ClientRow) (old new : CallerPass)
+    (status : Status) (over : Bool) : Type 0 where
   pub served : List Served
   pub are_new_clients : map new_client_of served ≡ new_clients
   pub are_after : map after_of served ≡ afters
@@ -39,8 +39,8 @@ pub record Gathers (limit : ℕ) (new_clients : List NewClient) (afters : List C
   pub own_ends : over ≡ false → All IsOwnEnd served
 
 -- and then a quit was put or nothing, and nothing where one ended because the gate was over
-pub record Closes (limit : ℕ) (new_clients : List NewClient) (afters : List ClientRow) (old new : CallerPass) (status : Status)
-    : Type 0 where
+pub record Closes (limit : ℕ) (new_clients : List NewClient) (afters : List ClientRow) (old new : CallerPass)
+    (status : Status) : Type 0 where
   pub mid : CallerPass
   pub over : Bool
   pub gathers : Gathers limit new_clients afters old mid status over
@@ -60,7 +60,8 @@ IsFull client_list many = (there : ClientList) → client_list ≡ Some there �
 -- all clients of the client_list that is known
 abbrev pub GathersAll : Option ClientList → List ClientRow → (old new : CallerPass) → Status → Bool → Type 0
 GathersAll client_list afters old new status over =
-    (there : ClientList) → client_list ≡ Some there → ∥ Gathers there.limit there.new_clients afters old new status over ∥₁
+    (there : ClientList) → client_list ≡ Some there
+    → ∥ Gathers there.limit there.new_clients afters old new status over ∥₁
 
 abbrev pub ClosesAll : Option ClientList → List ClientRow → (old new : CallerPass) → Status → Type 0
 ClosesAll client_list afters old new status =

@@ -3,8 +3,8 @@ use Rattle.std.specs.Prelude.{◌≡◌, ℕ, ◌≤◌, [], ◌∷◌, map, len
 use Rattle.std.specs.Arc.{arc_value}
 use Rattle.zre_actor.specs.Commands.{times}
 use Rattle.zre_actor.specs.Passes.{number}
-use Rattle.zre_chat.specs.declared.places.CallerArgs.{CallerArgs}
-use Rattle.zre_chat.specs.Tables.{AreCallerArgs, IsLaid as IsBase}
+use Rattle.zre_console.specs.declared.places.CallerArgs.{CallerArgs}
+use Rattle.zre_console.specs.Tables.{AreCallerArgs, IsLaid as IsBase}
 use Rattle.zre_gate.specs.declared.table.GateTable.{GateTable}
 
 abbrev pub caller_number : CallerArgs → ℕ

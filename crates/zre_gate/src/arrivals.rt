@@ -1,6 +1,6 @@
 //! The clients come.
 
-ghost use Rattle.std.specs.Prelude.{◌≡◌, ◌≤◌, [], length, vec_capacity, is_err, OnOk, OnErr, true};
+ghost use Rattle.std.specs.Prelude.{◌≡◌, ◌≤◌, [], vec_capacity, is_err, OnOk, OnErr};
 ghost use Rattle.zre_outside.specs.Causes.{Rose};
 ghost use Rattle.zre_outside.specs.Refusals.{refused_after};
 ghost use Rattle.zre_gate.specs.Stages.{Attends, AttendsAll};

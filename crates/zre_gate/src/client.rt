@@ -8,8 +8,8 @@ use crate::gate_name::GateName;
 use crossbeam_channel::Sender;
 use std::marker::PhantomData;
 use std::sync::Wait;
-use zre_chat::talk::Excused;
 use zre_console::reader::{ReaderDone, ReaderJob};
+use zre_console::talk::Excused;
 use zre_outside::{Job, Source, Task};
 
 /// What comes back of a client.
@@ -21,7 +21,8 @@ pub struct Answer<C: Source, B: GateName> {
     pub done: ReaderDone<C>,
     /// Of which gate it is.
     pub of: PhantomData<B>,
-    ghost known: { ∥ IsAnswer B.client_list place (row C.left C.taken C.faults C.refused done.input) done.pass done.end ∥₁ },
+    ghost known: { ∥ IsAnswer B.client_list place (row C.left C.taken C.faults C.refused done.input) done.pass
+        done.end ∥₁ },
 }
 
 /// Reads a client and puts the commands of its lines, as a [`ReaderJob`] does, but for the quit, which isn't put. The

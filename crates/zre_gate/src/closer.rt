@@ -16,9 +16,9 @@ use std::alloc::Global;
 use std::sync::atomic::AtomicBool;
 use std::sync::{Arc, Wait};
 use zre_actor::{CallerPass, Pipes};
-use zre_chat::finishing::Read;
-use zre_chat::talk::Excused;
+use zre_console::finishing::Read;
 use zre_console::reader::close;
+use zre_console::talk::Excused;
 use zre_outside::{Job, Source, Task};
 
 /// Waits for all clients and absorbs their passes into its own. Then it puts a quit, again while the pipe is full,
@@ -52,7 +52,8 @@ impl<C: Source + Send + Drop + 'static, B: GateName + Send + 'static> Task for C
     type Out = Read<Vec<C>>;
 
     ghost means = { λ job out. IsCallerOf (arc_value job.pipes) out.pass
-        × ClosesAll B.client_list (map (row C.left C.taken C.faults C.refused) out.input.items) job.pass out.pass out.status };
+        × ClosesAll B.client_list (map (row C.left C.taken C.faults C.refused) out.input.items) job.pass out.pass
+        out.status };
 }
 
 impl<T: Wait + Copy, C: Source + Send + Drop + 'static, B: GateName + Send + 'static> Job<T>
@@ -83,8 +84,8 @@ where
     requires pipes { IsCallerOf pipes.now gathered.pass }
     ensures pipes { IsCallerOf pipes.now result.pass }
     ensures closes { (client_list : Option ClientList) (first : CallerPassValue)
-        → GathersAll client_list (map (row C.left C.taken C.faults C.refused) gathered.clients.items) first gathered.pass
-        gathered.status gathered.over
+        → GathersAll client_list (map (row C.left C.taken C.faults C.refused) gathered.clients.items) first
+        gathered.pass gathered.status gathered.over
         → ClosesAll client_list (map (row C.left C.taken C.faults C.refused) result.input.items) first result.pass
         result.status }
 {

@@ -6,8 +6,8 @@ ghost use Rattle.zre_outside.specs.Causes.{Rose};
 ghost use Rattle.zre_values.specs.Settings.{is_valid};
 ghost use Rattle.zre_node.specs.Journal.{StandsFor};
 ghost use Rattle.zre_commands.specs.declared.pump.status.Status.TheVariants.{WriteFault, WorldFault, DeskFault};
-ghost use Rattle.zre_chat.specs.Stages.{HasOpened, Unprepared};
-ghost use Rattle.zre_chat.specs.Statuses.{IsFirst, Yields};
+ghost use Rattle.zre_console.specs.Stages.{HasOpened, Unprepared};
+ghost use Rattle.zre_console.specs.Statuses.{IsFirst, Yields};
 ghost use Rattle.zre_gate.specs.Clients.{row};
 ghost use Rattle.zre_gate.specs.Gate.{HasGated, seen_beside};
 ghost use Rattle.zre_gate.specs.Stages.{Attends, AttendsAll};
@@ -19,20 +19,25 @@ use std::alloc::Global;
 use std::marker::Brand;
 use std::sync::Wait;
 use std::thread::Threads;
-use zre_chat::entering::enter;
-use zre_chat::keeping::begin;
-use zre_chat::places::NodeWork;
-use zre_chat::values::are_values;
-use zre_chat::{Chat, Ended};
 use zre_commands::pump::Status;
-use zre_outside::{Desk, Failed, Recorder, Sink, Spawner, World};
-use zre_values::{Endpoint, OutOfMemory};
+use zre_console::entering::enter;
+use zre_console::finishing::Ended;
+use zre_console::keeping::begin;
+use zre_console::places::NodeWork;
+use zre_console::values::are_values;
+use zre_journal::Config;
+use zre_outside::{Desk, Failed, Recorder, Sink, Spawner, Start, World};
+use zre_values::{Endpoint, Octets, OutOfMemory};
 
 /// What a gate is asked for.
 #[derive(Drop)]
 pub struct Gate {
-    /// What a chat is asked for.
-    pub chat: Chat,
+    /// The node's settings.
+    pub config: Config,
+    /// How it goes on the network.
+    pub start: Start,
+    /// The name under which a capture of its journal, of format 2, is kept, if it is to be kept.
+    pub capture: Option<Octets>,
     /// Where clients come to.
     pub local: Endpoint,
     /// How many clients there are.
@@ -72,12 +77,12 @@ impl Gate {
         P: Spawner,
         T: Wait + Threads + Copy,
         // The settings and the name are valid, and there are one to fourteen clients.
-        requires valid { is_valid self.chat.config ≡ true }
-        requires text { IfSome self.chat.capture (λ name. is_utf8 name ≡ true) }
+        requires valid { is_valid self.config ≡ true }
+        requires text { IfSome self.capture (λ name. is_utf8 name ≡ true) }
         requires few { (1 ≤ self.clients) × (self.clients ≤ 14) }
         // What was read, given, done, written and kept, and the status.
-        ensures gate { HasGated (row D.Client.left D.Client.taken D.Client.faults D.Client.refused) self.local
-            (D.told desk) (D.told result.desk) self.chat.config self.chat.start self.chat.capture limit self.clients
+        ensures gate { HasGated (row D.Client.left D.Client.taken D.Client.faults D.Client.refused) self limit
+            (D.told desk) (D.told result.desk)
             (seen_beside (W.told world) (W.faults world) (O.written out.old) (O.faults out.old)
             (R.kept rec) (R.named rec) (R.faults rec) (P.faults spawner.old))
             (seen_beside (W.told result.world) (W.faults result.world) (O.written out.new) (O.faults out.new)
@@ -89,11 +94,11 @@ impl Gate {
             (P.faults spawner.new ≡ P.faults spawner.old)
             × Yields result.status DeskFault (D.refused result.desk ≡ D.refused desk) }
         // What isn't used comes back as it was; counts of faults never fall.
-        ensures unkept { self.chat.capture ≡ None → result.rec ≡ rec }
+        ensures unkept { self.capture ≡ None → result.rec ≡ rec }
         ensures later { (O.faults out.old ≤ O.faults out.new) × (P.faults spawner.old ≤ P.faults spawner.new) }
     {
-        are_values(&self.chat.config);
-        let keep = self.chat.capture.is_some();
+        are_values(&self.config);
+        let keep = self.capture.is_some();
         let (mut desk, mut world, mut rec) = (desk, world, rec);
         let mut clients = Vec::new(alloc);
         match self.prepare(alloc, &mut desk, &mut clients, &mut world, &mut rec) {
@@ -109,15 +114,13 @@ impl Gate {
                 );
                 ended(desk, served)
             }
-            Err(status) => {
-                let unserved = Ended {
-                    status,
-                    input: clients,
-                    world,
-                    rec,
-                };
-                ended(desk, unserved)
-            }
+            Err(status) => GateEnded {
+                status,
+                desk,
+                clients,
+                world,
+                rec,
+            },
         }
     }
 
@@ -132,25 +135,25 @@ impl Gate {
         rec: &mut R,
     ) -> Result<GateTable<D::Client>, Status>
         // The settings and the name are valid, there are one to fourteen clients, and none has come.
-        requires valid { is_valid self.chat.config ≡ true }
-        requires text { IfSome self.chat.capture (λ name. is_utf8 name ≡ true) }
+        requires valid { is_valid self.config ≡ true }
+        requires text { IfSome self.capture (λ name. is_utf8 name ≡ true) }
         requires few { (1 ≤ self.clients) × (self.clients ≤ 14) }
         requires none { clients.old.items ≡ [] }
         // The pipes are laid, and the node is new.
         ensures laid { IfOk result (λ table. IsLaid self.clients table
-            × StandsFor self.chat.config [] table.base.node_args.node) }
+            × StandsFor self.config [] table.base.node_args.node) }
         // The clients have come, the capture is begun and the world started.
         ensures attends { Attends self.local (D.told desk.old) (D.told desk.new) clients.new.items }
         ensures all { OnOk result
             (AttendsAll self.local self.clients (D.told desk.old) (D.told desk.new) clients.new.items) }
-        ensures opened { OnOk result (HasOpened self.chat.config self.chat.start self.chat.capture (R.begun rec.new)
+        ensures opened { OnOk result (HasOpened self.config self.start self.capture (R.begun rec.new)
             (W.told world.old) (W.told world.new) (R.kept rec.old) (R.kept rec.new)
             (R.named rec.old) (R.named rec.new)) }
         // What isn't used stays as it was; counts of faults never fall.
-        ensures unkept { self.chat.capture ≡ None → rec.new ≡ rec.old }
+        ensures unkept { self.capture ≡ None → rec.new ≡ rec.old }
         ensures later { (W.faults world.old ≤ W.faults world.new) × (R.faults rec.old ≤ R.faults rec.new) }
         // Why it did not come that far.
-        ensures refused { IfErr result (λ status. Unprepared self.chat.config self.chat.start self.chat.capture status
+        ensures refused { IfErr result (λ status. Unprepared self.config self.start self.capture status
             (W.told world.old) (W.told world.new) (R.kept rec.old) (R.kept rec.new) (R.named rec.old) (R.named rec.new)
             (Rose (D.faults desk.old) (D.faults desk.new)) (Rose (W.faults world.old) (W.faults world.new))
             (Rose (R.faults rec.old) (R.faults rec.new))) }
@@ -161,20 +164,22 @@ impl Gate {
             × Yields status WorldFault (W.refused world.new ≡ W.refused world.old)
             × Yields status DeskFault (D.refused desk.new ≡ D.refused desk.old)) }
     {
-        let Chat {
+        let Gate {
             config,
             start,
             capture,
-        } = self.chat;
-        if clients.reserve(usize::from(self.clients)).is_err() {
+            local,
+            clients: many,
+        } = self;
+        if clients.reserve(usize::from(many)).is_err() {
             return Err(Status::OutOfMemory);
         }
         begin(alloc, rec, &config, &capture)?;
-        if let Err(Failed) = attend(desk, self.local, self.clients, clients) {
+        if let Err(Failed) = attend(desk, local, many, clients) {
             return Err(Status::DeskFault);
         }
-        let base = enter(alloc, config, &start, world, self.clients)?;
-        match GateTable::lay(alloc, base, self.clients) {
+        let base = enter(alloc, config, &start, world, many)?;
+        match GateTable::lay(alloc, base, many) {
             Ok(table) => Ok(table),
             Err(OutOfMemory) => Err(Status::OutOfMemory),
         }

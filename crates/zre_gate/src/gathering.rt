@@ -2,7 +2,7 @@
 
 ghost use Rattle.std.specs.Prelude.{◌≡◌, ◌≤◌, ◌<◌, ◌+◌, ◌||◌, ◌∷◌, [], Some, map, take, length, vec_len, vec_capacity};
 ghost use Rattle.zre_actor.specs.Passes.{IsCallerOf};
-ghost use Rattle.zre_chat.specs.Statuses.{least};
+ghost use Rattle.zre_console.specs.Statuses.{least};
 ghost use Rattle.zre_gate.specs.Clients.{row, of_client as client_status, is_over as is_over_end};
 ghost use Rattle.zre_actor.specs.declared.passes.CallerPass.{CallerPass as CallerPassValue};
 ghost use Rattle.zre_gate.specs.Gathering.{Gathers, IsClientList, IsFull, GathersAll};
@@ -13,9 +13,9 @@ use crate::gate_name::GateName;
 use crossbeam_channel::Receiver;
 use std::sync::Wait;
 use zre_actor::{CallerPass, Pipes};
-use zre_chat::statuses::first;
 use zre_commands::pump::Status;
 use zre_console::reader::InputEnd;
+use zre_console::statuses::first;
 use zre_outside::Source;
 
 /// What is left of clients that were waited for.
@@ -104,9 +104,11 @@ where
     // One client more is gathered.
     ensures gathers { (there : ClientList) (first : CallerPassValue) → B.client_list ≡ Some there
         → ∥ Gathers there.limit (take place there.new_clients)
-        (map (row C.left C.taken C.faults C.refused) gathered.clients.items) first gathered.pass gathered.status gathered.over ∥₁
+        (map (row C.left C.taken C.faults C.refused) gathered.clients.items) first gathered.pass gathered.status
+        gathered.over ∥₁
         → ∥ Gathers there.limit (take (place + 1) there.new_clients)
-        (map (row C.left C.taken C.faults C.refused) result.clients.items) first result.pass result.status result.over ∥₁ }
+        (map (row C.left C.taken C.faults C.refused) result.clients.items) first result.pass result.status
+        result.over ∥₁ }
 {
     let GatheredClients {
         mut clients,

@@ -4,7 +4,7 @@ ghost use Rattle.std.specs.Prelude.{◌≡◌, ℕ, IfOk, map, length, All};
 ghost use Rattle.std.specs.Arc.{arc_value};
 ghost use Rattle.zre_actor.specs.Commands.{times};
 ghost use Rattle.zre_actor.specs.Passes.{AreCallersOf, IsNew, fresh_of, given_of, room_of, numbers_of};
-ghost use Rattle.zre_chat.specs.Tables.{AreCallerArgs, IsLaid as IsBase, HasMore};
+ghost use Rattle.zre_console.specs.Tables.{AreCallerArgs, IsLaid as IsBase, HasMore};
 ghost use Rattle.zre_gate.specs.Tables.{IsLaid, caller_number};
 
 use std::alloc::Global;
@@ -12,11 +12,11 @@ use std::collections::VecDeque;
 use std::sync::Arc;
 use std::sync::atomic::AtomicBool;
 use zre_actor::{CallerPasses, Pipes};
-use zre_chat::places::{CallerArgs, caller_args};
-use zre_chat::table::Table as Base;
+use zre_console::places::{CallerArgs, caller_args};
+use zre_console::table::Table as Base;
 use zre_values::OutOfMemory;
 
-/// What a chat's threads need too, a args_of_caller for each client, and room for the clients.
+/// What a chat's threads need too, what each client's thread puts commands with, and room for the clients.
 #[derive(Drop)]
 pub(crate) struct GateTable<C> {
     pub base: Base,
@@ -24,7 +24,7 @@ pub(crate) struct GateTable<C> {
     pub left: Vec<C>,
 }
 
-// A args_of_caller for each pass that wasn't taken yet.
+// What a thread puts commands with, for each pass that wasn't taken yet.
 fn caller_args_for(
     alloc: Global,
     pipes: &Arc<Pipes, Global>,
@@ -55,7 +55,7 @@ fn caller_args_for(
 }
 
 impl<C: Drop> GateTable<C> {
-    /// Gives each of so many clients a args_of_caller.
+    /// Gives each of so many clients what its thread puts commands with.
     pub fn lay(alloc: Global, mut base: Base, many: u8) -> Result<GateTable<C>, OutOfMemory>
         // The pipes are laid, with passes for the clients.
         requires laid { IsBase many base }

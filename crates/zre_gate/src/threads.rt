@@ -8,10 +8,10 @@ ghost use Rattle.zre_outside.specs.Causes.{Rose};
 ghost use Rattle.zre_values.specs.declared.settings.Settings.{Settings as ConfigValue};
 ghost use Rattle.zre_node.specs.Journal.{StandsFor};
 ghost use Rattle.zre_actor.specs.declared.passes.Pipes.{Pipes as PipesValue};
-ghost use Rattle.zre_chat.specs.Chat.{Seen};
-ghost use Rattle.zre_chat.specs.Stages.{Prepared};
-ghost use Rattle.zre_chat.specs.Statuses.{IsFirst};
-ghost use Rattle.zre_chat.specs.Tables.{AreCallerArgs};
+ghost use Rattle.zre_console.specs.Lived.{Seen};
+ghost use Rattle.zre_console.specs.Stages.{Prepared};
+ghost use Rattle.zre_console.specs.Statuses.{IsFirst};
+ghost use Rattle.zre_console.specs.Tables.{AreCallerArgs};
 ghost use Rattle.zre_gate.specs.Clients.{row};
 ghost use Rattle.zre_gate.specs.Gate.{IsGate, seen_beside};
 ghost use Rattle.zre_gate.specs.ClientLists.{client_list_of};
@@ -26,14 +26,13 @@ use std::alloc::Global;
 use std::collections::VecDeque;
 use std::sync::Wait;
 use std::thread::Threads;
-use zre_chat::Ended;
-use zre_chat::finishing::settle;
-use zre_chat::places::{CallerArgs, NodeWork};
-use zre_chat::starting::start_node;
-use zre_chat::table::Table as Base;
-use zre_chat::talk::{Excused, start};
 use zre_commands::pump::Status;
+use zre_console::finishing::{Ended, settle};
+use zre_console::places::{CallerArgs, NodeWork};
 use zre_console::reader::ReaderJob;
+use zre_console::starting::start_node;
+use zre_console::table::Table as Base;
+use zre_console::talk::{Excused, start};
 use zre_outside::{Recorder, Running, Sink, Source, Spawner, Task, World};
 use zre_values::OutOfMemory;
 
@@ -102,7 +101,7 @@ where
 // What the threads of the clients are given, in the order of the clients.
 #[derive(Drop)]
 struct ClientStarts<C: Source, B: GateName> {
-    // A args_of_caller for each.
+    // What each puts its commands with.
     all_args: VecDeque<CallerArgs>,
     // Where the answer of each goes to.
     ins: VecDeque<Sender<Answer<C, B>>>,
@@ -142,7 +141,7 @@ impl<C: Source + Send + Drop + 'static, B: GateName + Send + 'static> ClientStar
         let limit = self.limit;
         let mut place: u64 = 0;
         for input in clients {
-            let Some(args_of_caller) = self.all_args.pop_front() else {
+            let Some(caller) = self.all_args.pop_front() else {
                 unreachable!();
             };
             let Some(line) = self.ins.pop_front() else {
@@ -150,9 +149,9 @@ impl<C: Source + Send + Drop + 'static, B: GateName + Send + 'static> ClientStar
             };
             let reading = ReaderJob {
                 alloc,
-                pipes: args_of_caller.pipes,
-                over: args_of_caller.over,
-                pass: args_of_caller.pass,
+                pipes: caller.pipes,
+                over: caller.over,
+                pass: caller.pass,
                 input,
                 limit,
             };
@@ -196,8 +195,9 @@ impl<C: Source + Send + Drop + 'static> GateTable<C> {
         // The pipes are laid, and the capture is begun where one is kept.
         requires laid { IsLaid (length clients.items) self }
         requires begun { work.keep ≡ true → R.begun work.rec ≡ true }
-        requires client_list { B.client_list ≡ Some (client_list_of (arc_value self.base.others.printer.pipes) work.limit
-            (map caller_number self.all_args.items) (map (row C.left C.taken C.faults C.refused) clients.items)) }
+        requires client_list { B.client_list ≡ Some (client_list_of (arc_value self.base.others.printer.pipes)
+            work.limit (map caller_number self.all_args.items)
+            (map (row C.left C.taken C.faults C.refused) clients.items)) }
         // What was read, given, done, written and kept, and the status.
         ensures gate { (g : ConfigValue) (start : StartValue) (name : Option (List ℕ)) (s : Seen) (before after : ℕ)
             → StandsFor g [] self.base.node_args.node →

@@ -1,7 +1,7 @@
 -- What is told of refused reads, where the reading goes on and ends.
-use Rattle.std.proofs.Common.{◌≡◌, Option, sym, subst}
+use Rattle.std.proofs.Common.{Option, sym, subst}
 use mathlib.Core.Logic.{inl, inr}
-use Rattle.zre_outside.specs.Refusals.{Refusals, RefusesNone, RefusesLast}
+use Rattle.zre_outside.specs.Refusals.{Refusals, RefusesNone}
 use Rattle.zre_outside.proofs.RefusedReads.{none_then, last_then}
 use Rattle.zre_actor.specs.declared.passes.CallerPass.{CallerPass}
 use Rattle.zre_console.specs.declared.reader.ending.InputEnd.{InputEnd}

@@ -3,7 +3,6 @@
 ghost use Rattle.std.specs.Prelude.{◌≡◌, ◌==◌, ◌&&◌, not, ◌+◌, ◌++◌, [], ◌∷◌, ℕ, false, List, length, IfOk, OnOk};
 ghost use Rattle.std.specs.Prelude.{OnErr};
 ghost use Rattle.std.specs.Option.{option_to_list};
-ghost use Rattle.zre_capture.specs.Parts.{Lacks};
 ghost use Rattle.zre_capture.specs.Journal.{lines_in};
 ghost use Rattle.zre_console.specs.lines.Orders.{order_of, orders_from, ended_lines, typed};
 ghost use Rattle.zre_console.specs.lines.Typing.{Keeps, Typed, Adds, AddsFront};

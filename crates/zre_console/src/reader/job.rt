@@ -53,10 +53,12 @@ impl<I: Source + Drop> ReaderJob<I> {
         self,
         rt: T,
     ) -> (ReaderDone<I>, Arc<Pipes, Global>, Arc<AtomicBool, Global>)
+        // What was read and put, and why no more.
         ensures pipes { (arc_value result.1 ≡ arc_value self.pipes) × IsCallerOf (arc_value self.pipes) result.0.pass }
         ensures read { HasReadLines result.0.end self.limit self.pass result.0.pass
             (I.left self.input) (I.left result.0.input) (I.taken self.input) (I.taken result.0.input)
             (Rose (I.faults self.input) (I.faults result.0.input)) }
+        // After a refused read nothing more is read; the count of faults never falls.
         ensures refused { EndsByRefusal result.0.end (I.refused self.input) (I.refused result.0.input) }
         ensures later { I.faults self.input ≤ I.faults result.0.input }
     {

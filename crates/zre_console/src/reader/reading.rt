@@ -48,8 +48,10 @@ impl ChatPipes<'_> {
         pass: CallerPass,
         piece: &[u8],
     ) -> (CallerPass, Next)
+        // The pass belongs to the pipes, before and after.
         requires { IsCallerOf self.now.pipes.now pass }
         ensures pipes { IsCallerOf self.now.pipes.now result.0 }
+        // What the piece holds is put, up to a quit. No read is refused here.
         ensures took { (o : List ℕ) → Typed o typist.old → list_any is_quit (typed o) ≡ false →
             Took result.1 typist.new o piece.now pass result.0 }
         ensures unrefused { GoesUnrefused result.1 }
@@ -120,8 +122,10 @@ impl ChatPipes<'_> {
         typist: &Typist,
         pass: CallerPass,
     ) -> (CallerPass, InputEnd)
+        // The pass belongs to the pipes, before and after.
         requires { IsCallerOf self.now.pipes.now pass }
         ensures pipes { IsCallerOf self.now.pipes.now result.0 }
+        // What the last line holds is put. No read is refused here.
         ensures finishes { (o : List ℕ) → Typed o typist.now → list_any is_quit (typed o) ≡ false →
             Finishes result.1 o pass result.0 }
         ensures unrefused { EndsUnrefused result.1 }

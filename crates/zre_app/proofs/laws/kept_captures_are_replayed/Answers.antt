@@ -6,8 +6,8 @@ use Rattle.zre_capture.specs.Lines.{IsEntry}
 use Rattle.zre_commands.specs.declared.pump.status.Status.{Status}
 use Rattle.zre_commands.specs.declared.pump.status.Status.TheVariants.{Done, OutOfMemory}
 use Rattle.zre_records.proofs.Replayed.{written}
-use Rattle.zre_chat.specs.Chat.{IsSpared}
-use Rattle.zre_chat.proofs.Rows.{memory_isnt}
+use Rattle.zre_console.specs.Lived.{IsSpared}
+use Rattle.zre_console.proofs.LeastStatus.{memory_isnt}
 use Rattle.zre_app.proofs.laws.kept_captures_are_replayed.Goals as goal
 
 -- where something was spared memory didn't run out

@@ -1,7 +1,7 @@
 use Rattle.std.proofs.Common.{refl}
 use mathlib.Core.Logic.{inl}
 use Rattle.std.proofs.lemmas.Result.{IfErr-weaker, IfOk-weaker, on_ok_weaker, err_from_is_err_and}
-use Rattle.zre_chat.proofs.PreparingFailed.{not_begun, not_entered}
+use Rattle.zre_console.proofs.PreparingFailed.{not_begun, not_entered}
 use Rattle.zre_chat.proofs.chat.prepare.Goals as goal
 
 pub returns-in_err-begin-clause-refused : goal.returns-in_err-begin-clause-refused

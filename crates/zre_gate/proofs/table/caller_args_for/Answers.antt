@@ -6,13 +6,13 @@ use Rattle.std.proofs.lemmas.List.Elements.{All-push}
 use Rattle.zre_actor.specs.Commands.{times}
 use Rattle.zre_actor.specs.Passes.{IsCallerOf, IsNew, fresh_of, numbers_of, number}
 use Rattle.zre_actor.proofs.Sums.{times-append}
-use Rattle.zre_chat.specs.Tables.{AreCallerArgs}
+use Rattle.zre_console.specs.Tables.{AreCallerArgs}
 use Rattle.zre_gate.specs.Tables.{caller_number}
 use Rattle.zre_gate.proofs.table.caller_args_for.Goals as goal
 
 pub each-preserved : goal.each-preserved
 each-preserved c =
-    let i = c.each.invariant in let pass = c.in-Some.pass in let args_of_caller = c.in_ok-caller_args.field-0 in let one = c.in-Some.ensures in
+    let i = c.each.invariant in let pass = c.in-Some.pass in let caller = c.in_ok-caller_args.field-0 in let one = c.in-Some.ensures in
     let old = c.each.all_args.items in let rest = fresh_of c.take.new.self in
     let pushed = c.in_ok-push_back.ensures.items in
     let callers = one.pipes (arc_value c.args.pipes.now) i.pipes in
@@ -23,11 +23,11 @@ each-preserved c =
       pipes = callers.0;
       new = new.0;
       count = omega (arith, i.count, count, length-append rest (pass ∷ []));
-      all_args = subst (All (AreCallerArgs (arc_value c.args.pipes.now))) (sym pushed) (All-push (AreCallerArgs (arc_value c.args.pipes.now)) old args_of_caller i.all_args
+      all_args = subst (All (AreCallerArgs (arc_value c.args.pipes.now))) (sym pushed) (All-push (AreCallerArgs (arc_value c.args.pipes.now)) old caller i.all_args
           (c.in_ok-caller_args.ensures.pipes, subst (IsCallerOf (arc_value c.args.pipes.now)) (sym same) callers.1, subst IsNew (sym same) new.1));
-      made = ap length pushed ∙ omega (arith, i.made, length-append old (args_of_caller ∷ []));
+      made = ap length pushed ∙ omega (arith, i.made, length-append old (caller ∷ []));
       numbers = λ n. (
-          let made = ap (λ xs. times n (map caller_number xs)) pushed ∙ ap (times n) (map-append caller_number old (args_of_caller ∷ [])) ∙ times-append n (map caller_number old) (caller_number args_of_caller ∷ []) in
+          let made = ap (λ xs. times n (map caller_number xs)) pushed ∙ ap (times n) (map-append caller_number old (caller ∷ [])) ∙ times-append n (map caller_number old) (caller_number caller ∷ []) in
           let left = ap (λ xs. times n (numbers_of xs)) one.taken ∙ ap (times n) (map-append number rest (pass ∷ [])) ∙ times-append n (numbers_of rest) (number pass ∷ []) in
           let is = ap (λ p. times n (number p ∷ [])) same in
           let all = i.numbers n in

@@ -3,7 +3,7 @@ use Rattle.std.specs.Prelude.{All}
 use Rattle.std.specs.Arc.{arc_value}
 use Rattle.zre_actor.specs.Commands.{times}
 use Rattle.zre_actor.specs.Passes.{AreCallersOf, IsNew, fresh_of, given_of, room_of, numbers_of}
-use Rattle.zre_chat.specs.Tables.{AreCallerArgs}
+use Rattle.zre_console.specs.Tables.{AreCallerArgs}
 use Rattle.zre_gate.specs.Tables.{caller_number}
 use Rattle.zre_gate.proofs.table.caller_args_for.Given as goal
 

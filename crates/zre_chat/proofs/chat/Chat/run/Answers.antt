@@ -1,10 +1,11 @@
 use Rattle.std.proofs.Common.{◌∙◌, refl, sym}
 use mathlib.Core.Logic.{inl}
 use Rattle.zre_commands.specs.declared.pump.status.Status.TheVariants.{WriteFault, WorldFault}
-use Rattle.zre_chat.specs.Chat.{seen}
-use Rattle.zre_chat.proofs.Callers.{two_apart}
-use Rattle.zre_chat.proofs.First.{yields_since}
-use Rattle.zre_chat.proofs.ChatOfParts.{prepared, unprepared, there}
+use Rattle.zre_console.specs.Lived.{seen}
+use Rattle.zre_console.proofs.Callers.{two_apart}
+use Rattle.zre_console.proofs.First.{yields_since}
+use Rattle.zre_console.proofs.Unstarted.{prepared, there}
+use Rattle.zre_chat.proofs.ChatOfParts.{unprepared}
 use Rattle.zre_chat.proofs.chat.Chat.run.Goals as goal
 
 pub returns-in-Err-clause-chat : goal.returns-in-Err-clause-chat
@@ -15,7 +16,7 @@ returns-in-Err-clause-chat g c =
     unprepared a.self.config a.self.start a.self.capture a.limit c.are_values.ensures s t c.in-Err.status refl refl refl c.in-Err.ensures.refused
 
 pub converse-requires-clause-apart : goal.converse-requires-clause-apart
-converse-requires-clause-apart g c κs within = two_apart 0 c.in-Ok.table c.in-Ok.ensures.laid.1
+converse-requires-clause-apart g c κs within = two_apart 0 c.in-Ok.base c.in-Ok.ensures.laid.1
 
 pub converse-requires-clause-begun : goal.converse-requires-clause-begun
 converse-requires-clause-begun g c κs within = λ is. (let name = there c.args.self.capture (sym c.is_some-keep.ensures ∙ is) in (c.in-Ok.ensures.opened.begins name.0 name.1).is_begun)
@@ -26,7 +27,7 @@ returns-in-Ok-clause-chat g c =
     let s = seen (i.left a.input) (i.taken a.input) (i.faults a.input) (w.told a.world) (w.faults a.world) (o.written a.out.now) (o.faults a.out.now) (r.kept a.rec) (r.named a.rec) (r.faults a.rec) (g.P.Spawner.faults a.spawner.now) in
     let u = seen (i.left a.input) (i.taken a.input) (i.faults a.input) (w.told x) (w.faults x) (o.written a.out.now) (o.faults a.out.now) (r.kept n) (r.named n) (r.faults n) (g.P.Spawner.faults a.spawner.now) in
     c.converse.ensures.chat a.self.config a.self.start a.self.capture s c.in-Ok.ensures.node
-    (prepared a.self.config a.self.start a.self.capture a.limit c.are_values.ensures c.is_some-keep.result (r.begun n) s u refl c.in-Ok.ensures.opened c.prepare.ensures.later c.is_some-keep.ensures)
+    (prepared a.self.config a.self.start a.self.capture c.are_values.ensures c.is_some-keep.result (r.begun n) s u refl c.in-Ok.ensures.opened c.prepare.ensures.later c.is_some-keep.ensures)
 
 pub returns-in-Err-clause-first : goal.returns-in-Err-clause-first
 returns-in-Err-clause-first g c = let f = c.in-Err.ensures.first in record { written = inl refl; recorded = f.1; given = f.0; started = inl refl }

@@ -5,9 +5,9 @@ use Rattle.std.proofs.lemmas.Result.{err_from_is_err_and}
 use Rattle.zre_values.specs.declared.endpoint.Endpoint.{Endpoint}
 use Rattle.zre_outside.specs.Desks.{Register}
 use Rattle.zre_commands.specs.declared.pump.status.Status.TheVariants.{OutOfMemory}
-use Rattle.zre_chat.proofs.PreparingFailed.{not_begun, not_entered}
-use Rattle.zre_chat.proofs.First.{below_self}
-use Rattle.zre_chat.proofs.ChatOfParts.{none_started}
+use Rattle.zre_console.proofs.PreparingFailed.{not_begun, not_entered}
+use Rattle.zre_console.proofs.First.{below_self}
+use Rattle.zre_console.proofs.Unstarted.{none_started}
 use Rattle.zre_gate.specs.Gate.{attended}
 use Rattle.zre_gate.specs.Stages.{Attends}
 use Rattle.zre_gate.proofs.Attended.{not_attended}
@@ -24,7 +24,7 @@ returns-then-is_err-clause-attends g c = none_came _ _ _ (c.reserve.ensures.item
 pub returns-then-is_err-clause-refused : goal.returns-then-is_err-clause-refused
 returns-then-is_err-clause-refused g c =
     let w = g.W.World in let r = g.R.Recorder in let a = c.args in
-    not_begun a.self.chat.config a.self.chat.start a.self.chat.capture OutOfMemory (w.told a.world.now) (w.told a.world.now) (r.kept a.rec.now) (r.kept a.rec.now) (r.named a.rec.now) (r.named a.rec.now) _ _ _ refl tt
+    not_begun a.self.config a.self.start a.self.capture OutOfMemory (w.told a.world.now) (w.told a.world.now) (r.kept a.rec.now) (r.kept a.rec.now) (r.named a.rec.now) (r.named a.rec.now) _ _ _ refl tt
 
 pub returns-in_err-begin-clause-attends : goal.returns-in_err-begin-clause-attends
 returns-in_err-begin-clause-attends g c = none_came _ _ _ (c.reserve.ensures.items ∙ c.requires.none)
@@ -33,7 +33,7 @@ pub returns-in_err-begin-clause-refused : goal.returns-in_err-begin-clause-refus
 returns-in_err-begin-clause-refused g c =
     let w = g.W.World in let r = g.R.Recorder in let a = c.args in let n = c.begin.new.rec in
     let p = err_from_is_err_and c.from_residual.result c.from_residual.ensures.1 in
-    rw (p.1, p.2) (not_begun a.self.chat.config a.self.chat.start a.self.chat.capture c.in_err-begin.field-0.0 (w.told a.world.now) (w.told a.world.now) (r.kept a.rec.now) (r.kept n) (r.named a.rec.now) (r.named n) _ _ _ refl c.in_err-begin.ensures.refused)
+    rw (p.1, p.2) (not_begun a.self.config a.self.start a.self.capture c.in_err-begin.field-0.0 (w.told a.world.now) (w.told a.world.now) (r.kept a.rec.now) (r.kept n) (r.named a.rec.now) (r.named n) _ _ _ refl c.in_err-begin.ensures.refused)
 
 pub returns-in-Err-clause-refused : goal.returns-in-Err-clause-refused
 returns-in-Err-clause-refused g c = record {
@@ -47,7 +47,7 @@ pub returns-in_err-base-clause-refused : goal.returns-in_err-base-clause-refused
 returns-in_err-base-clause-refused g c =
     let w = g.W.World in let r = g.R.Recorder in let a = c.args in let n = c.begin.new.rec in
     let p = err_from_is_err_and c.from_residual-in_err-base.result c.from_residual-in_err-base.ensures.1 in
-    rw (p.1, p.2) (not_entered a.self.chat.config a.self.chat.start a.self.chat.capture c.in_err-base.field-0.0 (w.told a.world.now) (w.told c.enter.new.world) (r.kept a.rec.now) (r.kept n) (r.named a.rec.now) (r.named n) _ _ _
+    rw (p.1, p.2) (not_entered a.self.config a.self.start a.self.capture c.in_err-base.field-0.0 (w.told a.world.now) (w.told c.enter.new.world) (r.kept a.rec.now) (r.kept n) (r.named a.rec.now) (r.named n) _ _ _
     (λ file is. (r.begun n, c.in_ok-begin.ensures.begins file is)) c.in_err-base.ensures.refused)
 
 pub returns-clause-refused : goal.returns-clause-refused

@@ -14,11 +14,11 @@ use Rattle.zre_actor.specs.Work.{IsWork, scene, is_world_fault, is_record_fault}
 use Rattle.zre_actor.proofs.Given.{how_back}
 use Rattle.zre_commands.specs.declared.pump.status.Status.{Status}
 use Rattle.zre_commands.specs.declared.pump.status.Status.TheVariants.{NoThread, OutOfMemory}
-use Rattle.zre_chat.specs.Chat.{Seen}
-use Rattle.zre_chat.proofs.First.{below_self, first_of_all}
-use Rattle.zre_chat.proofs.Rows.{memory_isnt, thread_isnt}
-use Rattle.zre_chat.proofs.SecondCaller.{asker_ended}
-use Rattle.zre_chat.proofs.ChatOfParts.{head_only}
+use Rattle.zre_console.specs.Lived.{Seen}
+use Rattle.zre_console.proofs.First.{below_self, first_of_all}
+use Rattle.zre_console.proofs.LeastStatus.{memory_isnt, thread_isnt}
+use Rattle.zre_console.proofs.SecondCaller.{asker_ended}
+use Rattle.zre_console.proofs.Unstarted.{head_only}
 use Rattle.zre_gate.specs.Clients.{ClientRow, row}
 use Rattle.zre_gate.specs.Gate.{IsGate, seen_beside}
 use Rattle.zre_gate.specs.ClientLists.{client_list_of, new_clients_of}

@@ -2,7 +2,7 @@ use Rattle.std.proofs.Common.{◌≡◌, ◌≤◌, ◌+◌, ◌++◌, List, tru
 use Rattle.std.specs.Prelude.{vec_capacity}
 use Rattle.std.specs.Vec.Iter.{into_iter_items}
 use Rattle.zre_outside.specs.Causes.{Rose}
-use Rattle.zre_chat.specs.declared.places.CallerArgs.{CallerArgs}
+use Rattle.zre_console.specs.declared.places.CallerArgs.{CallerArgs}
 use Rattle.zre_gate.proofs.threads.ClientStarts.start_clients.Given as goal
 
 abbrev pub invariant-loop-input : goal.invariant-loop-input

@@ -1,0 +1,10 @@
+pub mod Callers
+pub mod First
+pub mod Fronts
+pub mod LeastStatus
+pub mod NodeThread
+pub mod Parts
+pub mod Popped
+pub mod PreparingFailed
+pub mod SecondCaller
+pub mod Unstarted
