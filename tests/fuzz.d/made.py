@@ -203,8 +203,8 @@ class Network:
     def open(self) -> str:
         if not self.links:
             return self.beacon()
-        number = self.chance.randrange(len(self.links)) + 1
         self.conns += 1
+        number = self.chance.randrange(len(self.links)) + 1
         return f"open {number} {self.links[number - 1]} 0"
 
     def carry(self) -> str:

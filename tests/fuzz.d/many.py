@@ -6,6 +6,7 @@ import re
 import struct
 import subprocess
 import time
+from dataclasses import dataclass
 from functools import lru_cache
 from typing import Callable, Dict, Iterator, List, NamedTuple, Optional, Tuple
 
@@ -28,14 +29,6 @@ AT_THE_END = (b"table", b"audit", b"simulate")
 Second = Callable[[List[bytes], bytes], Tuple[bytes, int]]
 
 
-class Ended(Exception):
-    """The program ended before it answered all cases; at which one, and how."""
-
-    def __init__(self, at: int, how: str) -> None:
-        super().__init__(at, how)
-        self.at, self.how = at, how
-
-
 class Found(NamedTuple):
     """A case of which something doesn't hold, and what."""
     which: int
@@ -55,6 +48,13 @@ def packed_words(words: Tuple[bytes, ...]) -> bytes:
 def packed(case: Case) -> bytes:
     """A case as `zre_cases` reads it."""
     return packed_words(case.words) + bytes([case.most]) + sized(case.octets)
+
+
+@dataclass(eq=False)
+class Ended(Exception):
+    """The program ended before it answered all cases; at which one, and how."""
+    at: int
+    how: str
 
 
 def answers(program: str, cases: List[Case]) -> List[Answer]:

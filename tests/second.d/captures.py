@@ -3,6 +3,7 @@ from __future__ import annotations
 
 import re
 import urllib.parse
+from dataclasses import dataclass
 from functools import lru_cache
 from typing import Callable, Dict, List, NamedTuple, Optional, Tuple, TypeVar
 
@@ -23,12 +24,11 @@ class NotAsRequired(Exception):
     """A field isn't as required."""
 
 
+@dataclass(eq=False)
 class BadCapture(Exception):
     """The first line, and the first column of it, that is no capture; both from 1."""
-
-    def __init__(self, line: int, column: int) -> None:
-        super().__init__(line, column)
-        self.line, self.column = line, column
+    line: int
+    column: int
 
 
 class Entry(NamedTuple):

@@ -1,6 +1,7 @@
 """Messages of version 2 of RFC 36, what a peer shows by them, and the lines that tell of them."""
 from __future__ import annotations
 
+from dataclasses import dataclass
 from functools import lru_cache
 from typing import Dict, List, NamedTuple, Optional, Tuple
 
@@ -14,12 +15,12 @@ QUOTED = [chr(octet) if 0x21 <= octet <= 0x7e and octet not in b"%~=," else f"%{
 Pairs = List[Tuple[bytes, bytes]]
 
 
+@dataclass(eq=False)
 class Bad(Exception):
     """Why the frames of a message mean nothing: a reason, a frame and an octet of it, both from 0."""
-
-    def __init__(self, why: str, frame: int, place: int) -> None:
-        super().__init__(why, frame, place)
-        self.why, self.frame, self.place = why, frame, place
+    why: str
+    frame: int
+    place: int
 
 
 class Message(NamedTuple):

@@ -5,6 +5,7 @@ neither greeting nor handshake. Places count octets from 0 at the start of the s
 """
 from __future__ import annotations
 
+from dataclasses import dataclass
 from typing import Callable, Iterator, List, NamedTuple, Optional, Tuple, Union
 
 GREETING_SIZE = 64
@@ -17,12 +18,11 @@ MECHANISM = b"NULL" + bytes(16)
 NAME_OCTETS = frozenset(b"ABCDEFGHIJKLMNOPQRSTUVWXYZabcdefghijklmnopqrstuvwxyz0123456789-_.+")
 
 
+@dataclass(eq=False)
 class Fault(Exception):
     """What makes the octets no stream: a reason and its place."""
-
-    def __init__(self, why: str, place: int) -> None:
-        super().__init__(why, place)
-        self.why, self.place = why, place
+    why: str
+    place: int
 
 
 class Greeting(NamedTuple):

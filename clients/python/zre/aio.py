@@ -8,14 +8,13 @@
 """
 import asyncio
 import tempfile
-from collections import deque
-from typing import AsyncIterator, Deque, Optional, Tuple
+from typing import AsyncIterator, Optional
 
 from .events import Event, Stop
 from .lines import BadLine, Command
-from .node import PROBE, UNREAD, Content, frame, last_line, unpacked
-from .session import Full, NodeDied, NotRunning, Queries, Session
-from .settings import Headers, Octets, Peer, identity, octets, settings
+from .node import PROBE, Content, frame, last_line, unpacked
+from .session import Full, NodeDied, NotRunning, Queries
+from .settings import Octets, Peer, identity, octets
 
 _PIECE = 65_536
 
@@ -23,25 +22,8 @@ _PIECE = 65_536
 class Node(Queries):
     """As `zre.Node`, which says what its arguments, contents, limits and refusals are; for one event loop."""
 
-    def __init__(
-        self,
-        name: Optional[Octets] = None,
-        headers: Optional[Headers] = None,
-        interface: Optional[str] = None,
-        *,
-        program: Optional[str] = None,
-        packed: bool = False,
-        patience: Optional[float] = None,
-        unread: int = UNREAD,
-        **words: object,
-    ) -> None:
-        self._session = Session(settings(name, headers, interface, **words))  # type: ignore[arg-type]
-        self._program, self._packed, self._patience, self._bound = program, packed, patience, unread
+    def _prepare(self) -> None:
         self._process: Optional[asyncio.subprocess.Process] = None
-        self._events: Deque[Tuple[Event, int]] = deque()
-        self._unread = self._waiting = 0
-        self._status: Optional[int] = None
-        self._error = ""
 
     async def start(self) -> None:
         """Puts the node on the network, and returns once it is there. Raises NodeDied where it can't be, saying why."""

@@ -13,7 +13,7 @@ import subprocess
 import tempfile
 import time
 from collections import deque
-from typing import Deque, Dict, List, Set, Tuple, Union, cast
+from typing import Callable, Deque, Dict, List, Set, Tuple, Union, cast
 from uuid import UUID
 
 from . import events as ev
@@ -217,15 +217,21 @@ class Hub:
 
     def _serve(self, client: Client) -> None:
         """Takes what a client sent, and sends what waits for it."""
-        if client not in self._clients:
-            return
-        try:
-            client.receive()
-        except Gone:
-            self._drop(client)
+        if not self._is_done(client, client.receive):
             return
         self._line_up(client)
         self._send(client)
+
+    def _is_done(self, client: Client, step: Callable[[], None]) -> bool:
+        """Does a step with a client that is there; whether it was. One that is gone by then is dropped."""
+        if client not in self._clients:
+            return False
+        try:
+            step()
+        except Gone:
+            self._drop(client)
+            return False
+        return True
 
     def _line_up(self, client: Client) -> None:
         """Gives a client its turn, where it has lines and may have one more that isn't answered."""
@@ -235,12 +241,7 @@ class Hub:
 
     def _send(self, client: Client) -> None:
         """Sends as much as the socket takes; drops a client that is gone, is finished, or takes too little."""
-        if client not in self._clients:
-            return
-        try:
-            client.send()
-        except Gone:
-            self._drop(client)
+        if not self._is_done(client, client.send):
             return
         if client.unsent > self._bound:
             waiting = f"{client.unsent:,} octets wait for it, and the bound is {self._bound:,}"

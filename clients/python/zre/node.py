@@ -6,18 +6,16 @@ import subprocess
 import tempfile
 import threading
 import time
-from collections import deque
-from typing import IO, Deque, Iterable, Iterator, Optional, Tuple, Union
+from typing import IO, Iterable, Iterator, Optional, Union
 
 from .events import Event, Stop
 from .lines import BadLine, Command
 from .quoting import BadField, quote_list, unquote_list
-from .session import Full, NodeDied, NotRunning, Queries, Session
-from .settings import Headers, Octets, Peer, identity, octets, settings
+from .session import Full, NodeDied, NotRunning, Queries
+from .settings import Octets, Peer, identity, octets
 
 Content = Union[bytes, str, Iterable[bytes]]
 
-UNREAD = 16 << 20  # The octets of events that wait for `recv` before the node is read no further.
 PROBE = 5.0  # Seconds after which an idle program gets a sync line, to find out whether it still runs.
 _PIECE = 65_536
 
@@ -77,25 +75,8 @@ class Node(Queries):
     All calls may be made from several threads.
     """
 
-    def __init__(
-        self,
-        name: Optional[Octets] = None,
-        headers: Optional[Headers] = None,
-        interface: Optional[str] = None,
-        *,
-        program: Optional[str] = None,
-        packed: bool = False,
-        patience: Optional[float] = None,
-        unread: int = UNREAD,
-        **words: object,
-    ) -> None:
-        self._session = Session(settings(name, headers, interface, **words))  # type: ignore[arg-type]
-        self._program, self._packed, self._patience, self._bound = program, packed, patience, unread
+    def _prepare(self) -> None:
         self._process: Optional[subprocess.Popen[bytes]] = None
-        self._events: Deque[Tuple[Event, int]] = deque()
-        self._unread = self._waiting = 0
-        self._status: Optional[int] = None
-        self._error = ""
         self._changed = threading.Condition()
         self._writing = threading.Lock()
 

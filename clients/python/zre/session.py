@@ -5,13 +5,15 @@ after its answer to the line itself. So a session knows which lines are done, an
 """
 from collections import deque
 from dataclasses import dataclass, field
-from typing import Deque, Dict, List, Optional, Set
+from typing import Deque, Dict, List, Optional, Set, Tuple
 from uuid import UUID
 
 from . import events as ev
 from .events import Event
 from .lines import Command, format_command, parse_event
-from .settings import Octets, Peer, Settings, identity, octets
+from .settings import Headers, Octets, Peer, Settings, identity, octets, settings
+
+UNREAD = 16 << 20  # The octets of events that wait for `recv` before the node is read no further.
 
 
 class NodeError(Exception):
@@ -169,9 +171,31 @@ class Session:
 
 
 class Queries:
-    """What a node knows. It follows the lines that the program wrote, and so may be ahead of what `recv` gave."""
+    """What a node is made of, and what it knows. That follows the lines that the program wrote, and so may be ahead of
+    what `recv` gave."""
 
-    _session: Session
+    def __init__(
+        self,
+        name: Optional[Octets] = None,
+        headers: Optional[Headers] = None,
+        interface: Optional[str] = None,
+        *,
+        program: Optional[str] = None,
+        packed: bool = False,
+        patience: Optional[float] = None,
+        unread: int = UNREAD,
+        **words: object,
+    ) -> None:
+        self._session = Session(settings(name, headers, interface, **words))  # type: ignore[arg-type]
+        self._program, self._packed, self._patience, self._bound = program, packed, patience, unread
+        self._events: Deque[Tuple[Event, int]] = deque()
+        self._unread = self._waiting = 0
+        self._status: Optional[int] = None
+        self._error = ""
+        self._prepare()
+
+    def _prepare(self) -> None:
+        """Makes what a kind of node has besides."""
 
     @property
     def settings(self) -> Settings:

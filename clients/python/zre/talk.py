@@ -11,7 +11,7 @@ import sys
 import threading
 import time
 from collections import deque
-from typing import Callable, Deque, Dict, List, Optional, Union
+from typing import Any, Callable, Deque, Dict, List, Optional, Union
 from uuid import UUID
 
 from . import events as ev
@@ -56,6 +56,17 @@ def printed(octets: Octets) -> str:
     """Octets for a terminal: what can't be printed is escaped, so that no peer writes over the screen."""
     text = octets if isinstance(octets, str) else ev.as_text(octets)
     return "".join(one if one.isprintable() else one.encode("unicode_escape").decode() for one in text)
+
+
+# What an event of a peer says, by the name of the peer.
+TEXTS: Dict[type, Callable[[str, Any], str]] = {
+    ev.Enter: lambda name, event: f"{name} is here, at {printed(event.endpoint)}",
+    ev.Join: lambda name, event: f"{name} joined {printed(event.group)}",
+    ev.Leave: lambda name, event: f"{name} left {printed(event.group)}",
+    ev.Shout: lambda name, event: f"[{printed(event.group)}] {name}: {printed(event.text)}",
+    ev.Whisper: lambda name, event: f"{name} whispers: {printed(event.text)}",
+    ev.Exit: lambda name, event: f"{name} is gone: {event.cause.text}",
+}
 
 
 class Names:
@@ -152,26 +163,15 @@ class Talk:
         """An event in words; nothing where it isn't worth a line."""
         if isinstance(event, ev.Refused):
             return f"not done: {self._asked(event)}: {event.text}"
-        if isinstance(event, ev.Closed):
-            return f"connection {event.connection} is closed: {event.reason}"
-        if isinstance(event, ev.Ignored):
-            return f"connection {event.connection} is ignored: {event.reason}"
+        if isinstance(event, (ev.Closed, ev.Ignored)):
+            what = "closed" if isinstance(event, ev.Closed) else "ignored"
+            return f"connection {event.connection} is {what}: {event.reason}"
         if not isinstance(event, ev.PeerEvent):
             return ""
         name, was_silent = self._names.of(event.peer, event.name), event.peer in self._silent
         self._silent.pop(event.peer, None)
-        if isinstance(event, ev.Enter):
-            return f"{name} is here, at {printed(event.endpoint)}"
-        if isinstance(event, ev.Join):
-            return f"{name} joined {printed(event.group)}"
-        if isinstance(event, ev.Leave):
-            return f"{name} left {printed(event.group)}"
-        if isinstance(event, ev.Shout):
-            return f"[{printed(event.group)}] {name}: {printed(event.text)}"
-        if isinstance(event, ev.Whisper):
-            return f"{name} whispers: {printed(event.text)}"
-        if isinstance(event, ev.Exit):
-            return f"{name} is gone: {event.cause.text}"
+        if type(event) in TEXTS:
+            return TEXTS[type(event)](name, event)
         self._silent[event.peer] = None
         return "" if was_silent else f"{name} is silent"
 
