@@ -11,7 +11,8 @@ use std::collections::VecDeque;
 use std::marker::Model;
 use zre_values::{OutOfMemory, take_apart};
 
-/// Where the newest part has as many octets, a further text begins a new one; and a text with as many is a part alone.
+/// A newest part with room for as many octets is full where a further text doesn't fit; and a text with as many is a
+/// part alone.
 const PART: usize = 16 * 1024;
 
 /// Octets that wait to go out, in parts. Texts are appended to the newest part, which nothing else holds; the parts
@@ -93,6 +94,24 @@ fn put(
     }
 }
 
+// Begins a new part, where the newest has no room for a text. One with less room than a part has grows with the text.
+#[inline(never)]
+fn make_room(
+    alloc: Global,
+    parts: &mut VecDeque<Bytes>,
+    newest: &mut BytesMut,
+) -> Result<(), OutOfMemory>
+    ensures same { concat parts.new.items ++ newest.new.items ≡ concat parts.old.items ++ newest.old.items }
+    ensures some { All HasOctets parts.old.items → All HasOctets parts.new.items }
+{
+    if newest.capacity() < PART {
+        return Ok(());
+    }
+    close(parts, newest)?;
+    *newest = BytesMut::with_capacity(alloc, PART)?;
+    Ok(())
+}
+
 // Appends a copy of these octets, or nothing.
 fn add(
     alloc: Global,
@@ -110,8 +129,8 @@ fn add(
         let part = Bytes::copy_from_slice(alloc, octets)?;
         return put(parts, newest, &[], part);
     }
-    if newest.len() >= PART {
-        close(parts, newest)?;
+    if newest.capacity().saturating_sub(newest.len()) < octets.len() {
+        make_room(alloc, parts, newest)?;
     }
     newest.extend_from_slice(octets)?;
     Ok(())
