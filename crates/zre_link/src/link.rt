@@ -221,6 +221,7 @@ impl Link {
         // What stays.
         ensures rest { IsOnlyAnswered self.old self.new }
         // How many octets are looked at.
+        ensures once { steps.new ≤ steps.old + length piece.now }
         ensures looks { Looks steps.old steps.new (kept_of self.old.replies) (kept_of self.new.replies)
             (length piece.now) result }
         ensures paid { IfErr result (λ e. e ≢ ReplyFault.OutOfMemory

@@ -57,6 +57,7 @@ impl Awaits {
             IfErr result (λ e. Refuses e (reply_fault (o ++ piece.now))
             ((expected_of self.new ≡ awaited (o ++ piece.now)) × (contexts_in out.new ≡ new_pings o piece.now))) }
         // How many octets are looked at.
+        ensures once { steps.new ≤ steps.old + length piece.now }
         ensures looks { Looks steps.old steps.new (kept reader.old) (kept reader.new) (length piece.now) result }
     {
         if reader.spent() {
@@ -99,6 +100,7 @@ impl Replies {
             IfErr result (λ e. Refuses e (reply_fault (o ++ piece.now)) ((self.new ≡ heard_after (o ++ piece.now))
             × (contexts_in out.new ≡ new_pings o piece.now))) }
         // How many octets are looked at.
+        ensures once { steps.new ≤ steps.old + length piece.now }
         ensures looks { Looks steps.old steps.new (kept_of self.old) (kept_of self.new) (length piece.now) result }
         // A refusal keeps nothing.
         ensures emptied { OnErr result (kept_of self.new ≡ 0) }

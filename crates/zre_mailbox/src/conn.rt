@@ -91,6 +91,7 @@ impl Conn {
         ensures spent { is_spent self.new ≡ is_err result }
         ensures heard { is_ignored self.new ≡ false }
         // How many octets are looked at.
+        ensures once { steps.new ≤ steps.old + length piece.now }
         ensures looks { Looks steps.old steps.new (kept_of self.old) (kept_of self.new) (length piece.now) result }
     {
         let mut items = Items::new(self.alloc);
@@ -129,6 +130,7 @@ impl Conn {
         ensures spent { is_spent self.new ≡ is_err result }
         ensures heard { is_ignored self.new ≡ false }
         // How many octets are looked at.
+        ensures once { steps.new ≤ steps.old + length piece.now }
         ensures looks { Looks steps.old steps.new (kept_of self.old) (kept_of self.new) (length piece.now) result }
     {
         let Phase::Live(reader) = &mut self.phase else {
@@ -162,6 +164,7 @@ impl Conn {
             IfOk result (λ came. HearsLent came own o piece.now self.old self.new) }
         ensures other { result ≡ Ok Came.Other → (self.new ≡ self.old) × (steps.new ≡ steps.old) }
         // How many octets are looked at.
+        ensures once { steps.new ≤ steps.old + length piece.now }
         ensures looks { Looks steps.old steps.new (kept_of self.old) (kept_of self.new) (length piece.now) result }
     {
         let Phase::Live(reader) = &mut self.phase else {

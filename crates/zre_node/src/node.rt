@@ -1,12 +1,14 @@
 //! A node.
 
 ghost use Rattle.std.specs.Prelude.{◌≡◌, ◌↔◌, ◌<◌, List, [], ◌∷◌, ◌++◌, true, false, IfOk, OnOk, OnErr, IsErr, IsTrue};
+ghost use Rattle.std.specs.Prelude.{◌+◌, ◌≤◌, length};
 ghost use Rattle.zre_outside.specs.declared.entry.Entry.{Entry as EntryValue};
 ghost use Rattle.zre_zmtp.specs.Looks.{IsOpenTo};
 ghost use Rattle.zre_values.specs.declared.settings.Settings.{Settings as ConfigValue};
 ghost use Rattle.zre_values.specs.Settings.{is_valid};
 ghost use Rattle.zre_journal.specs.Events.{events};
 ghost use Rattle.zre_journal.specs.Ledger.{KeepsLedgers};
+ghost use Rattle.zre_node.specs.Brings.{octets_of};
 ghost use Rattle.zre_node.specs.Journal.{is_spent, beginning, StandsFor, IsStep, StepsLooks};
 ghost use Rattle.zre_node.specs.Kinds.{is_piece, piece_entry};
 
@@ -129,6 +131,7 @@ impl Node {
         ensures spent { IsTrue (is_spent self.new) ↔ IsErr result }
         ensures ended { IsTrue (is_spent self.old) → IsErr result }
         // Looks are paid for by the octets of the entry.
+        ensures once { steps.new ≤ steps.old + octets_of entry.input }
         ensures looks { StepsLooks self.old entry steps.old steps.new result }
         ensures none { IsTrue (is_spent self.old) → steps.new ≡ steps.old }
     {
@@ -155,6 +158,7 @@ impl Node {
         ensures spent { IsTrue (is_spent self.new) ↔ IsErr result }
         ensures ended { IsTrue (is_spent self.old) → IsErr result }
         // Looks are paid for by the octets of the entry.
+        ensures once { steps.new ≤ steps.old + octets_of entry.input }
         ensures looks { StepsLooks self.old entry steps.old steps.new result }
         ensures none { IsTrue (is_spent self.old) → steps.new ≡ steps.old }
     {
@@ -186,6 +190,7 @@ impl Node {
         ensures spent { IsTrue (is_spent self.new) ↔ IsErr result }
         ensures ended { IsTrue (is_spent self.old) → IsErr result }
         // Looks are paid for by the octets of the entry.
+        ensures once { steps.new ≤ steps.old + length piece.now.bytes.now }
         ensures looks { StepsLooks self.old (piece_entry piece.now.at piece.now.from piece.now.bytes.now)
             steps.old steps.new result }
         ensures none { IsTrue (is_spent self.old) → steps.new ≡ steps.old }
@@ -217,6 +222,7 @@ impl Node {
         ensures spent { IsTrue (is_spent self.new) ↔ IsErr result }
         ensures ended { IsTrue (is_spent self.old) → IsErr result }
         // Looks are paid for by the octets of the entry.
+        ensures once { steps.new ≤ steps.old + octets_of entry.input }
         ensures looks { StepsLooks self.old entry steps.old steps.new result }
         ensures none { IsTrue (is_spent self.old) → steps.new ≡ steps.old }
     {

@@ -1,12 +1,13 @@
 //! Whole entries.
 
-ghost use Rattle.std.specs.Prelude.{◌≡◌, List, [], true, false, OnOk};
+ghost use Rattle.std.specs.Prelude.{◌≡◌, List, [], true, false, OnOk, ◌+◌, ◌≤◌, length};
 ghost use Rattle.zre_outside.specs.declared.entry.Entry.{Entry as EntryValue};
 ghost use Rattle.zre_journal.specs.Endings.{is_end};
 ghost use Rattle.zre_values.specs.declared.settings.Settings.{Settings as Config};
 ghost use Rattle.zre_journal.specs.Chronicle.{Mark};
 ghost use Rattle.zre_journal.specs.Happens.{at_input};
 ghost use Rattle.zre_journal.specs.Commands.{at_stop};
+ghost use Rattle.zre_node.specs.Brings.{octets_of};
 ghost use Rattle.zre_node.specs.Journal.{Takes, TakesLooks, Took};
 ghost use Rattle.zre_node.specs.Kinds.{is_incoming, is_piece, piece_entry};
 ghost use Rattle.zre_node.specs.Stands.{Holds, Did};
@@ -79,6 +80,7 @@ impl Tables {
     ) -> Result<(), OutOfMemory>
         requires { is_piece entry.input ≡ false }
         ensures took { Takes entry self.old self.new out.old out.new result }
+        ensures once { steps.new ≤ steps.old + octets_of entry.input }
         ensures looks { TakesLooks entry self.old steps.old steps.new result }
     {
         let Entry { at, input } = entry;
@@ -110,6 +112,7 @@ impl Tables {
     ) -> Result<(), OutOfMemory>
         ensures took { Takes (piece_entry piece.now.at piece.now.from piece.now.bytes.now)
             self.old self.new out.old out.new result }
+        ensures once { steps.new ≤ steps.old + length piece.now.bytes.now }
         ensures looks { TakesLooks (piece_entry piece.now.at piece.now.from piece.now.bytes.now)
             self.old steps.old steps.new result }
     {
@@ -139,6 +142,7 @@ impl Tables {
     ) -> Result<(), OutOfMemory>
         ensures took { Takes (piece_entry piece.now.at piece.now.from piece.now.bytes.now)
             self.old self.new out.old out.new result }
+        ensures once { steps.new ≤ steps.old + length piece.now.bytes.now }
         ensures looks { TakesLooks (piece_entry piece.now.at piece.now.from piece.now.bytes.now)
             self.old steps.old steps.new result }
     {

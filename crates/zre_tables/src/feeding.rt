@@ -1,6 +1,6 @@
 //! Pieces of connections.
 
-ghost use Rattle.std.specs.Prelude.{◌≡◌, ◌≢◌, ℕ, List, [], ◌++◌, None, Some, Ok, IfOk, length, map};
+ghost use Rattle.std.specs.Prelude.{◌≡◌, ◌≢◌, ℕ, List, [], ◌++◌, None, Some, Ok, IfOk, length, map, ◌+◌, ◌≤◌};
 ghost use Rattle.zre_values.specs.declared.peer_id.PeerId.{PeerId as PeerIdValue};
 ghost use Rattle.zre_zmtp.specs.Looks.{Looks};
 ghost use Rattle.zre_mailbox.specs.Conn.{conn_after, kept_of};
@@ -27,6 +27,7 @@ fn read<L: Ledger>(
     ensures heard { (own : PeerIdValue) (o : List ℕ) → conn.old ≡ conn_after own o →
         IfOk result (λ fault. (conn.new ≡ conn_after own (o ++ bytes.now))
         × (map (λ a. Arrived a) (arrivals_in items.new) ++ fault_said fault ≡ completed own o bytes.now)) }
+    ensures once { steps.new ≤ steps.old + length bytes.now }
     ensures looks { (own : PeerIdValue) (o : List ℕ) → conn.old ≡ conn_after own o →
         Looks steps.old steps.new (kept_of conn.old) (kept_of conn.new) (length bytes.now) result }
 {
@@ -56,6 +57,7 @@ fn lend<'a, L: Ledger>(
         IfOk result (λ came. ConnTakes came own o bytes.now conn.old conn.new) }
     ensures other { result ≡ Ok Came.Other → (conn.new ≡ conn.old) × (steps.new ≡ steps.old) }
     // How many octets are looked at.
+    ensures once { steps.new ≤ steps.old + length bytes.now }
     ensures looks { (own : PeerIdValue) (o : List ℕ) → conn.old ≡ conn_after own o → result ≢ Ok Came.Other →
         Looks steps.old steps.new (kept_of conn.old) (kept_of conn.new) (length bytes.now) result }
 {
@@ -82,6 +84,7 @@ impl Conns {
             IfOk result (λ came. RowTakes came conn x own o bytes.now self.old self.new) }
         ensures other { result ≡ Ok Came.Other → (self.new ≡ self.old) × (steps.new ≡ steps.old) }
         // How many octets are looked at.
+        ensures once { steps.new ≤ steps.old + length bytes.now }
         ensures looks { (own : PeerIdValue) (o : List ℕ) → reader_at conn self.old ≡ Some (conn_after own o)
             → result ≢ Ok Came.Other →
             Looks steps.old steps.new (kept_of (conn_after own o)) (kept_of (conn_after own (o ++ bytes.now)))
@@ -117,6 +120,7 @@ impl Conns {
             ≡ with_row conn (record x { conn = Some (conn_after own (o ++ bytes.now)) }) self.old)
             × (map (λ a. Arrived a) (arrivals_in items.new) ++ fault_said fault ≡ completed own o bytes.now)) }
         // How many octets are looked at.
+        ensures once { steps.new ≤ steps.old + length bytes.now }
         ensures looks { (own : PeerIdValue) (o : List ℕ) → reader_at conn self.old ≡ Some (conn_after own o) →
             Looks steps.old steps.new (kept_of (conn_after own o)) (kept_of (conn_after own (o ++ bytes.now)))
             (length bytes.now) result }

@@ -1,6 +1,7 @@
 //! Replies on the links of peers.
 
 ghost use Rattle.std.specs.Prelude.{◌≡◌, ℕ, length, List, ◌++◌, Bool, true, false, None, Some, Ok, IfOk, if◌then◌else◌};
+ghost use Rattle.std.specs.Prelude.{◌+◌, ◌≤◌};
 ghost use Rattle.zre_values.specs.declared.peer_id.PeerId.{PeerId as PeerIdValue};
 ghost use Rattle.zre_zmtp.specs.Looks.{Looks};
 ghost use Rattle.zre_link.specs.Heard.{heard_after, kept_of, reply_fault};
@@ -28,6 +29,7 @@ fn hear_reply<L: Ledger>(
         IfOk result (λ why. (link.new ≡ link_answering own line true o n bytes.now)
         × (why ≡ cause_by_reply (slow_in own line o n bytes.now) (reply_fault (o ++ bytes.now)))) }
     ensures waiting { link.old.linked ≡ false → IfOk result (λ why. (link.new ≡ link.old) × (why ≡ None)) }
+    ensures once { steps.new ≤ steps.old + length bytes.now }
     ensures looks { Looks steps.old steps.new (kept_of link.old.replies) (kept_of link.new.replies)
         (length bytes.now) result }
 {
@@ -63,6 +65,7 @@ impl Peers {
         ensures missing { row_at link self.old ≡ None →
             (self.new ≡ self.old) × (result ≡ Ok None) × (steps.new ≡ steps.old) }
         // How many octets are looked at.
+        ensures once { steps.new ≤ steps.old + length bytes.now }
         ensures looks { (x : PeerValue) (own : PeerIdValue) (line : List Member) (linked : Bool) (o : List ℕ) (n : ℕ)
             → row_at link self.old ≡ Some x → x.link ≡ link_after own line linked o n →
             Looks steps.old steps.new (kept_of (heard_after o))

@@ -1,6 +1,6 @@
 //! A frame whose header is whole, and whose body isn't.
 
-ghost use Rattle.std.specs.Prelude.{◌≡◌, ◌+◌, ◌<◌, List, length, IfSome, IfErr, OnOk};
+ghost use Rattle.std.specs.Prelude.{◌≡◌, ◌+◌, ◌<◌, ◌≤◌, List, length, IfSome, IfErr, OnOk};
 ghost use Rattle.zre_zmtp.specs.Frame.{header_len as header_len_of};
 ghost use Rattle.zre_zmtp.specs.Stream.{Want};
 ghost use Rattle.zre_zmtp.specs.Shown.{before_of, left_of, held, Advances, RefusesAt, HasHeader};
@@ -44,6 +44,7 @@ pub fn begin_frame<L: Ledger>(
     ensures refused { (want : Want) (out : List Item) →
         IfErr result (λ e. RefusesAt e want (before_of progress.old) octets.now out out) }
     // How many octets are looked at.
+    ensures once { steps.new ≤ steps.old + length octets.now }
     ensures looks { Looks steps.old steps.new (held progress.old) (held progress.new) (length octets.now) result }
 {
     let (head, later) = octets.split_at(header_len(octets));

@@ -13,12 +13,13 @@ use crate::item::{Item, Items, What};
 use crate::looks::{Steps, Store};
 use crate::partial::Partial;
 use crate::progress::Progress;
+use std::mem;
 use std::sync::ledger::Ledger;
 
 impl Progress {
     // The item that ends with the greeting, and what is known after it.
     #[tactic(auto, unfolding(crate::specs::Stream::item))]
-    fn finish_greeting<L: Ledger>(&mut self, steps: &mut Steps<L>) -> Result<Item, FeedFault>
+    fn finish_greeting(&mut self) -> Result<Item, FeedFault>
         // What a caller knows.
         requires expected { self.old.expected ≡ Expected.Greeting }
         requires some { 12 ≤ length self.old.greeting }
@@ -29,23 +30,22 @@ impl Progress {
         ensures left { OnOk result (left_of self.new ≡ []) }
         ensures err { IfErr result (λ e. e ≡ FeedFault.OutOfMemory) }
         ensures opened { self.new.opened ≡ self.old.opened }
-        // How many octets are looked at.
-        ensures looks { steps.new ≤ steps.old + 2 }
     {
         let start = self.place;
         let Some(end) = start.checked_add(self.greeting.len() as u64) else {
             return Err(FeedFault::OutOfMemory);
         };
+        let whole = mem::replace(&mut self.greeting, Store::new(self.alloc)).finish();
+        let octets = whole.as_slice();
         let what = What::Greeting {
-            major: self.greeting.octet(10, steps),
-            minor: self.greeting.octet(11, steps),
+            major: octets[10],
+            minor: octets[11],
         };
         self.expected = Expected::Ready;
         self.place = end;
         if self.opened.len() == 0 {
             self.start = end;
         }
-        self.greeting = Store::new(self.alloc);
         self.partial = Partial::new(self.alloc);
         Ok(Item { start, end, what })
     }
@@ -63,6 +63,7 @@ impl Progress {
         // What a refusal tells, and what it leaves.
         ensures refused { (want : WantValue) → NamesFault result want self.old (octet ∷ []) out.old out.new }
         // How many octets are looked at.
+        ensures once { steps.new ≤ steps.old + 1 }
         ensures looks { Looks steps.old steps.new (held self.old) (held self.new) 1 result }
     {
         let i = self.greeting.len();
@@ -76,7 +77,7 @@ impl Progress {
         if self.greeting.len() < GREETING_OCTETS {
             return Ok(());
         }
-        out.push(self.finish_greeting(steps)?)?;
+        out.push(self.finish_greeting()?)?;
         Ok(())
     }
 }

@@ -38,6 +38,7 @@ pub fn looks_are_few<L: Ledger>(
     steps: &mut Steps<L>,
 ) -> Result<(), FeedFault>
     ensures read { OnOk result (Adds Any Traffic [] (concat pieces.now) out.old out.new) }
+    ensures once { steps.new ≤ steps.old + length (concat pieces.now) }
     ensures looks { steps.new ≤ steps.old + 4 * length (concat pieces.now) }
 {
     let mut reader = Reader::traffic(alloc);

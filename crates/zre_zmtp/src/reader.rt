@@ -64,6 +64,7 @@ impl Progress {
     ) -> Result<(), FeedFault>
         ensures ok { StandsAfter result want.now self.old self.new octets.now out.old out.new }
         ensures refused { NamesFault result want.now self.old octets.now out.old out.new }
+        ensures once { steps.new ≤ steps.old + length octets.now }
         ensures looks { Looks steps.old steps.new (held self.old) (held self.new) (length octets.now) result }
     {
         let mut rest = octets;
@@ -158,6 +159,7 @@ impl Reader {
         ensures refused { RefusesOn result self.old piece.now out.old out.new }
         ensures spent { IsTrue self.new.spent ↔ IsErr result }
         // How many octets are looked at.
+        ensures once { steps.new ≤ steps.old + length piece.now }
         ensures looks { Looks steps.old steps.new (kept self.old) (kept self.new) (length piece.now) result }
     {
         self.spent = true;
@@ -200,6 +202,7 @@ impl Reader {
         ensures spent { IsTrue self.new.spent ↔ IsErr result }
         // How many octets are looked at.
         ensures other { result ≡ Ok Came.Other → steps.new ≡ steps.old }
+        ensures once { steps.new ≤ steps.old + length piece.now }
         ensures looks { Looks steps.old steps.new (kept self.old) (kept self.new) (length piece.now) result }
     {
         if let Some(front) = self.pass_all(piece) {
@@ -295,6 +298,7 @@ impl Reader {
         ensures refused { RefusesOn result self.old (concat pieces.now) out.old out.new }
         ensures spent { IsTrue self.new.spent ↔ IsErr result }
         // How many octets are looked at.
+        ensures once { steps.new ≤ steps.old + length (concat pieces.now) }
         ensures looks { Looks steps.old steps.new (kept self.old) (kept self.new) (length (concat pieces.now)) result }
     {
         for piece in pieces.as_slice() {

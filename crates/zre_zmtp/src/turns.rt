@@ -279,6 +279,7 @@ impl Progress {
         // What a refusal tells, and what it leaves.
         ensures refused { NamesFault result want.now self.old octets.now out.old out.new }
         // How many octets are looked at.
+        ensures once { steps.new ≤ steps.old + length octets.now }
         ensures looks { Looks steps.old steps.new (held self.old) (held self.new) (length octets.now) result }
     {
         let none = Partial::new(self.alloc);
@@ -434,6 +435,7 @@ impl Progress {
         // What a refusal tells, and what it leaves.
         ensures refused { NamesFault result want.now self.old octets.now out.old out.new }
         // How many octets are looked at.
+        ensures once { steps.new ≤ steps.old + length octets.now }
         ensures looks { Looks steps.old steps.new (held self.old) (held self.new) (length octets.now) result }
     {
         match (self.expected, self.partial.header) {
@@ -461,6 +463,8 @@ impl Progress {
         ensures refused { NamesFault result want.now self.old octets.now out.old out.new }
         // How many octets are taken and looked at.
         ensures within { IfOk result (λ len. 0 < len × len ≤ length octets.now) }
+        ensures once { IfOk result (λ len. steps.new ≤ steps.old + len) }
+        ensures refused_once { OnErr result (steps.new ≤ steps.old + length octets.now) }
         ensures looks { IfOk result (λ len. IsPaid steps.old steps.new (held self.old) (held self.new) len) }
         ensures refused_looks { OnErr result (IsPaidOnRefusal steps.old steps.new (held self.old) (length octets.now)) }
     {

@@ -1,6 +1,6 @@
 //! Pieces of connections.
 
-ghost use Rattle.std.specs.Prelude.{◌≡◌, ◌≢◌, ℕ, List, [], ◌∷◌, IfOk, Ok, true, length};
+ghost use Rattle.std.specs.Prelude.{◌≡◌, ◌≢◌, ℕ, List, [], ◌∷◌, IfOk, Ok, true, length, ◌+◌, ◌≤◌};
 ghost use Rattle.zre_zmtp.specs.Looks.{Looks};
 ghost use Rattle.zre_outside.specs.declared.entry.Entry.{Entry};
 ghost use Rattle.zre_outside.specs.declared.entry.Input.TheVariants as input;
@@ -51,6 +51,7 @@ impl Tables {
             IfOk result (λ came. ComesLent came g H e piece.entry.from self.old self.new) }
         // How many octets are looked at.
         ensures other { result ≡ Ok Came.Other → steps.new ≡ steps.old }
+        ensures once { steps.new ≤ steps.old + length piece.entry.bytes.now }
         ensures looks { (g : Config) (H : List Mark) (e : Entry) →
             e.input ≡ input.Piece piece.entry.from piece.entry.bytes.now → Holds g H self.old → result ≢ Ok Came.Other →
             Looks steps.old steps.new (kept g H) (kept g (Comes e ∷ H)) (length piece.entry.bytes.now) result }
@@ -82,6 +83,7 @@ impl Tables {
             IfOk result (λ fault. Holds g (Comes e ∷ H) self.new
             × (at_places g piece.now.from (said_in items.new fault) (Comes e ∷ H)
             ≡ at_places g piece.now.from (newly_completed g.id piece.now.from H (Comes e ∷ H)) (Comes e ∷ H))) }
+        ensures once { steps.new ≤ steps.old + length piece.now.bytes.now }
         ensures looks { (g : Config) (H : List Mark) (e : Entry) →
             e.input ≡ input.Piece piece.now.from piece.now.bytes.now → Holds g H self.old →
             Looks steps.old steps.new (kept g H) (kept g (Comes e ∷ H)) (length piece.now.bytes.now) result }

@@ -1,6 +1,7 @@
 //! Links stand, are answered, take what they were offered, and break.
 
 ghost use Rattle.std.specs.Prelude.{◌≡◌, ℕ, length, List, [], ◌∷◌, ◌++◌, true, false, None, OnOk, IfOk, IfSome};
+ghost use Rattle.std.specs.Prelude.{◌+◌, ◌≤◌};
 ghost use Rattle.std.specs.Prelude.{IsSome, if◌then◌else◌, nat_eq, ◌||◌};
 ghost use Rattle.std.specs.List.{list_any};
 ghost use Rattle.zre_outside.specs.declared.entry.Entry.{Entry as EntryValue};
@@ -76,6 +77,7 @@ impl Tables {
         ensures came { (g : Config) (H : List Mark) (e : EntryValue) → e.at ≡ reply.now.at
             → e.input ≡ given.Reply reply.now.from reply.now.bytes.now → Holds g H self.old →
             IfOk result (λ why. IsReplied g H e reply.now.from why self.new) }
+        ensures once { steps.new ≤ steps.old + length reply.now.bytes.now }
         ensures looks { (g : Config) (H : List Mark) (e : EntryValue) →
             e.input ≡ given.Reply reply.now.from reply.now.bytes.now → Holds g H self.old →
             Looks steps.old steps.new (kept g H) (kept g (Comes e ∷ H)) (length reply.now.bytes.now) result }
@@ -115,6 +117,7 @@ impl Tables {
         ensures took { (g : Config) (H : List Mark) (e : EntryValue) → e.at ≡ reply.now.at
             → e.input ≡ given.Reply reply.now.from reply.now.bytes.now →
             out.old.pushed ≡ [] → Holds g H self.old → OnOk result (Took g e H self.new out.old out.new) }
+        ensures once { steps.new ≤ steps.old + length reply.now.bytes.now }
         ensures looks { (g : Config) (H : List Mark) (e : EntryValue) →
             e.input ≡ given.Reply reply.now.from reply.now.bytes.now → Holds g H self.old →
             Looks steps.old steps.new (kept g H) (kept g (with_entry g e H)) (length reply.now.bytes.now) result }

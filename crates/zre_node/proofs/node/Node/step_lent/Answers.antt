@@ -31,3 +31,10 @@ returns-clause-looks over c = λ g J s.
       | then-not-self+in_ok-take_piece w ↦ rw w.steps-is (omega (arith, (w.in_ok-take_piece.ensures.looks g H (st.going (sym st.stopped ∙ w.if-not-self.true))).0, kept_happened g J e), tt)
       | else-not-self w ↦ rw w.steps-is (omega (arith, idle_lowers g e H b.tables (st.resting (sym st.stopped ∙ w.if-not-self.false)), kept_happened g J e), tt)
     ]
+
+pub returns-clause-once : goal.returns-clause-once
+returns-clause-once over c =
+    elim c.if-not-self.branch [
+      | then-not-self+in_ok-take_piece w ↦ rw w.steps-is w.in_ok-take_piece.ensures.once
+      | else-not-self w ↦ rw w.steps-is (omega arith)
+    ]

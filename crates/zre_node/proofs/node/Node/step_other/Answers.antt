@@ -30,3 +30,10 @@ returns-clause-looks over c = λ g J s.
       | then-self w ↦ rw w.steps-is (omega (arith, idle_lowers g e H b.tables (st.resting (sym st.stopped ∙ w.if-self.true)), kept_happened g J e), tt)
       | else-self+in_ok-take_other w ↦ rw w.steps-is (omega (arith, (w.in_ok-take_other.ensures.looks g H (st.going (sym st.stopped ∙ w.if-self.false))).0, kept_happened g J e), tt)
     ]
+
+pub returns-clause-once : goal.returns-clause-once
+returns-clause-once over c =
+    elim c.if-self.branch [
+      | then-self w ↦ rw w.steps-is (omega arith)
+      | else-self+in_ok-take_other w ↦ rw w.steps-is w.in_ok-take_other.ensures.once
+    ]

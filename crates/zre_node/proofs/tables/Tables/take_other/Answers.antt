@@ -1,4 +1,4 @@
-use Rattle.std.proofs.Common.{◌≡◌, refl, sym, ap, ◌∙◌, subst}
+use Rattle.std.proofs.Common.{◌≡◌, refl, sym, ap, ◌∙◌, subst, arith}
 use Rattle.zre_outside.specs.declared.entry.Input.TheVariants as input
 use Rattle.zre_zmtp.specs.Looks.{Looks}
 use Rattle.zre_journal.specs.Happens.{with_entry}
@@ -28,3 +28,8 @@ returns-in-End-clause-looks over c = λ g H h. quiet_looks g c.args.entry H c.ar
 pub returns-in_default-clause-looks : goal.returns-in_default-clause-looks
 returns-in_default-clause-looks over c = λ g H h.
     quiet_looks g c.args.entry H c.args.self.now h c.args.entry.input refl (quiet_other c.args.entry.input c.requires c.in_default.not-Reply) c.take_incoming.result c.args.steps.now
+
+pub returns-in-Reply-clause-once : goal.returns-in-Reply-clause-once
+returns-in-Reply-clause-once over c =
+    let is : c.args.entry.input ≡ input.Reply c.in-Reply.link c.as_slice.result.now = c.in-Reply.is ∙ ap (λ o. input.Reply c.in-Reply.link o) (sym c.as_slice.ensures) in
+    omega (arith, c.take_reply.ensures.once, ap octets_of is)

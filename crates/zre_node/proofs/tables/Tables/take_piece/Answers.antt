@@ -86,3 +86,6 @@ returns-in-Other-clause-looks over c = λ g H h.
     let none : c.come_lent.new.steps ≡ c.args.steps.now = c.in_ok-bodies.ensures.other (ap (λ x. Ok x) c.in-Other.is) in
     subst (λ (s : ℕ). Looks s c.take_fed.new.steps (kept g H) (kept g (with_entry g e H)) (octets_of e.input) c.take_fed.result) none
     (c.take_fed.ensures.looks g H (subst (λ (t : Tables). Holds g H t) (sym same) h))
+
+pub returns-in-Other-clause-once : goal.returns-in-Other-clause-once
+returns-in-Other-clause-once over c = omega (arith, c.in_ok-bodies.ensures.other (ap (λ x. Ok x) c.in-Other.is), c.take_fed.ensures.once)

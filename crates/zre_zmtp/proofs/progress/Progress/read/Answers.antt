@@ -26,7 +26,8 @@ loop-rest-preserved g c =
       λ w. (let amid = c.loop-rest.invariant.0 w in
           one_turn c.args.want.now c.args.out.now c.loop-rest.out c.take_turn.new.out all (before_of c.loop-rest.self) (before_of c.take_turn.new.self) (left_of c.loop-rest.self) (take c.in_ok-len.len c.loop-rest.rest.now) c.split_at.result.1.now
           (left_of c.take_turn.new.self) c.loop-rest.rest.now (joined c.in_ok-len.len c.loop-rest.rest.now _ c.split_at.ensures.back) amid (c.in_ok-len.ensures.ok amid.waits)),
-      omega (arith, len, c.in_ok-len.ensures.within.1, c.in_ok-len.ensures.looks, c.loop-rest.invariant.1),
+      omega (arith, len, c.in_ok-len.ensures.within.1, c.in_ok-len.ensures.once, c.loop-rest.invariant.1),
+      omega (arith, len, c.in_ok-len.ensures.within.1, c.in_ok-len.ensures.looks, c.loop-rest.invariant.2),
     )
 
 pub returns-clause-ok : goal.returns-clause-ok
@@ -38,9 +39,9 @@ returns-clause-ok g c =
 pub returns-clause-looks : goal.returns-clause-looks
 returns-clause-looks g c =
     let none : length c.loop-rest.rest.now ≤ 0 = omega (arith, eqb-true _ _ (sym c.loop-rest-test.ensures)) in
-    (omega (arith, none, c.loop-rest.invariant.1), tt)
+    (omega (arith, none, c.loop-rest.invariant.2), tt)
 
 pub returns-in_err-len-clause-looks : goal.returns-in_err-len-clause-looks
 returns-in_err-len-clause-looks g c =
     let p = err_from_is_err_and c.from_residual.result c.from_residual.ensures.1 in
-    rw p.1 (tt, omega (arith, c.in_err-len.ensures.refused_looks, c.loop-rest.invariant.1))
+    rw p.1 (tt, omega (arith, c.in_err-len.ensures.refused_looks, c.loop-rest.invariant.2))

@@ -1,4 +1,4 @@
-use Rattle.std.proofs.Common.{length, ◌++◌}
+use Rattle.std.proofs.Common.{◌+◌, ◌≤◌, length, ◌++◌}
 use Rattle.zre_zmtp.specs.Run.{run_all}
 use Rattle.zre_zmtp.specs.Shown.{before_of, left_of, held, Waits}
 use Rattle.zre_zmtp.proofs.Turning.{IsAmid}
@@ -9,6 +9,7 @@ abbrev pub invariant-loop-rest : goal.invariant-loop-rest
 invariant-loop-rest g l =
     (Waits l.want (before_of l.fn.self) (left_of l.fn.self)
     → IsAmid l.want l.fn.out l.out (run_all l.want (before_of l.fn.self) (left_of l.fn.self ++ l.octets)) (before_of l.self) (left_of l.self) l.rest)
+    × (l.steps + length l.rest ≤ l.fn.steps + length l.octets)
     × IsPaidSoFar l.fn.steps l.steps (held l.fn.self) (held l.self) (length l.octets) (length l.rest)
 
 abbrev pub decreases-loop-rest : goal.decreases-loop-rest

@@ -1,4 +1,4 @@
-use Rattle.std.proofs.Common.{◌≡◌, List, ℕ, false, length, take}
+use Rattle.std.proofs.Common.{◌≡◌, ◌+◌, ◌≤◌, List, ℕ, false, length, take}
 use Rattle.std.specs.List.{concat}
 use Rattle.zre_zmtp.specs.Stream.{Want, Kind}
 use Rattle.zre_zmtp.specs.Reading.{Reads, kept}
@@ -10,4 +10,5 @@ abbrev pub invariant-loop-piece : goal.invariant-loop-piece
 invariant-loop-piece g l =
     (l.self.spent ≡ false)
     × ((want : Want) (kind : Kind) (o : List ℕ) → Reads want kind o l.fn.self → HasRead want kind o l.pieces l.piece-index l.self l.fn.out l.out)
+    × (l.steps ≤ l.fn.steps + length (concat (take l.piece-index l.pieces)))
     × IsPaid l.fn.steps l.steps (kept l.fn.self) (kept l.self) (length (concat (take l.piece-index l.pieces)))
