@@ -102,11 +102,11 @@ pub last_item : (place start : ℕ) (bodies : List (List ℕ)) (h : Header) (bod
 last_item place start bodies h body len m e = rw (m, e) refl
 
 -- after the first of several
-first_after : (place start : ℕ) (h : Header) (body : List ℕ) (len : ℕ) → is_message h.flags ≡ true → has_more h.flags ≡ true
+pub first_after : (place start : ℕ) (h : Header) (body : List ℕ) (len : ℕ) → is_message h.flags ≡ true → has_more h.flags ≡ true
     → frame_after (in_traffic place [] start) h body len ≡ in_traffic (place + len) (body ∷ []) start
 first_after place start h body len m e = rw (m, e) refl
 
-first_item : (place start : ℕ) (h : Header) (body : List ℕ) (len : ℕ) → is_message h.flags ≡ true → has_more h.flags ≡ true
+pub first_item : (place start : ℕ) (h : Header) (body : List ℕ) (len : ℕ) → is_message h.flags ≡ true → has_more h.flags ≡ true
     → frame_item (in_traffic place [] start) h body len ≡ None
 first_item place start h body len m e = rw (m, e) refl
 

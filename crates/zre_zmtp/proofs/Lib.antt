@@ -19,4 +19,5 @@ pub mod Handshakes
 pub mod Written
 pub mod Fronts
 pub mod Unfinished
+pub mod Crossings
 pub mod Lendings

@@ -37,7 +37,7 @@ grown p part more body frame was is =
 pub in_frames : (b : Before) → b.expected ≡ expect.Traffic → b.expected ≢ expect.Greeting
 in_frames b e is = not_greeting (sym e ∙ is)
 
-traffic_is : (b : Before) → b.expected ≡ expect.Traffic → b ≡ in_traffic b.place b.opened b.start
+pub traffic_is : (b : Before) → b.expected ≡ expect.Traffic → b ≡ in_traffic b.place b.opened b.start
 traffic_is b e = ap (λ x. let y : Before = record { expected = x; place = b.place; opened = b.opened; start = b.start } in y) e
 
 -- the frame that ends a message, whose bodies are lent
@@ -66,7 +66,7 @@ frame_waits want b h head body out now left traffic is ok lt same kept =
 
 -- ---- where nothing of a frame is kept
 
-no_body : (part : Partial) → part.head ≡ [] → part.body ≡ []
+pub no_body : (part : Partial) → part.head ≡ [] → part.body ≡ []
 no_body part none = part.apart (part.known ∙ ap header_of none)
 
 pub nothing_left : (p : Progress) → p.expected ≡ expect.Traffic → p.partial.head ≡ [] → left_of p ≡ []

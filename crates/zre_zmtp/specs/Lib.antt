@@ -6,6 +6,7 @@ pub mod Shown
 pub mod Reading
 pub mod Front
 pub mod Lending
+pub mod Across
 pub mod Looks
 pub mod Written
 pub mod Ping

@@ -78,6 +78,8 @@ impl Progress {
     ) -> Result<LentBodies<'a>, OutOfMemory>
         requires { Completes self.old header piece.now }
         ensures taken { IfOk result (λ lent. TakesPiece (Came.Message lent) self.old self.new piece.now) }
+        // Each octet is looked at once at most.
+        ensures once { steps.new ≤ steps.old + length piece.now }
         ensures looks { Looks steps.old steps.new (held self.old) (held self.new) (length piece.now) result }
     {
         let header_len = self.partial.head.len();
@@ -99,6 +101,8 @@ impl Progress {
         requires known { self.old.partial.header ≡ Some header }
         ensures taken { IfOk result (λ came. TakesPiece came self.old self.new piece.now) }
         ensures other { result ≡ Ok Came.Other → steps.new ≡ steps.old }
+        // Each octet is looked at once at most.
+        ensures once { steps.new ≤ steps.old + length piece.now }
         ensures looks { Looks steps.old steps.new (held self.old) (held self.new) (length piece.now) result }
     {
         let missing = header.size - self.partial.body.len() as u64;
@@ -107,10 +111,13 @@ impl Progress {
             self.partial.add(piece, steps)?;
             return Ok(Came::Part);
         }
-        if len > missing || !is_message(header.flags) || has_more(header.flags) {
+        if !is_message(header.flags) {
             return Ok(Came::Other);
         }
-        if self.opened.len() > 1 {
+        if has_more(header.flags) {
+            return self.go_past(header, piece, bodies, steps);
+        }
+        if len > missing || self.opened.len() > 1 {
             return Ok(Came::Other);
         }
         let lent = self.complete(header, piece, bodies, steps)?;
@@ -141,6 +148,8 @@ impl Progress {
         requires none { self.old.partial.head ≡ [] }
         ensures taken { IfOk result (λ came. TakesPiece came self.old self.new piece.now) }
         ensures other { result ≡ Ok Came.Other → steps.new ≡ steps.old }
+        // Each octet is looked at once at most.
+        ensures once { steps.new ≤ steps.old + length piece.now }
         ensures looks { Looks steps.old steps.new (held self.old) (held self.new) (length piece.now) result }
     {
         if let Some((_, body)) = self.last_frame(piece) {
@@ -153,7 +162,7 @@ impl Progress {
         };
         let (head, later) = piece.split_at(header_len(piece));
         if header.size <= later.len() as u64 {
-            return Ok(Came::Other);
+            return self.begin_past(header, piece, bodies, steps);
         }
         if let Some(_) = fault_of_header(self, head) {
             return Ok(Came::Other);
@@ -172,6 +181,8 @@ impl Progress {
     ) -> Result<Came<'a>, OutOfMemory>
         ensures taken { IfOk result (λ came. TakesPiece came self.old self.new piece.now) }
         ensures other { result ≡ Ok Came.Other → steps.new ≡ steps.old }
+        // Each octet is looked at once at most.
+        ensures once { steps.new ≤ steps.old + length piece.now }
         ensures looks { Looks steps.old steps.new (held self.old) (held self.new) (length piece.now) result }
     {
         if self.expected != Expected::Traffic {

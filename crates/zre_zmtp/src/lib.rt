@@ -2,6 +2,7 @@
 //! in any pieces, and what this node writes of them.
 #![tactic(auto)]
 
+mod across;
 mod begun;
 mod bodies;
 mod command;

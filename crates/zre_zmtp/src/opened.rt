@@ -76,6 +76,15 @@ impl Opened {
         self.push(steps.copy(alloc, body)?)
     }
 
+    /// The same with what stands in a place, which has nothing any more.
+    #[inline]
+    pub fn push_from(&mut self, alloc: Global, place: &mut Octets) -> Result<(), OutOfMemory>
+        ensures ok { OnOk result (self.new ≡ self.old ++ place.old ∷ []) }
+        ensures err { OnErr result (self.new ≡ self.old) }
+    {
+        self.push(mem::replace(place, Octets::new(alloc)))
+    }
+
     /// Hands the bodies out with a copy of the last one after them, and has none any more. The copy is a look at each
     /// octet.
     pub fn close<L: Ledger>(

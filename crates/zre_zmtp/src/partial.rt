@@ -103,4 +103,23 @@ impl Partial {
         self.head.clear();
         Ok(place.as_slice())
     }
+
+    /// The same, but the body lies in this place wherever it came from.
+    #[inline(always)]
+    pub fn end_in<L: Ledger>(
+        &mut self,
+        octets: &[u8],
+        place: &mut Octets,
+        steps: &mut Steps<L>,
+    ) -> Result<(), OutOfMemory>
+        ensures body { OnOk result (place.new ≡ self.old.body ++ octets.now) }
+        ensures empty { OnOk result ((self.new.head ≡ []) × (self.new.header ≡ None) × (self.new.body ≡ [])) }
+        ensures looks { steps.new ≡ steps.old + length octets.now }
+    {
+        self.body.add(octets, steps)?;
+        self.body.give(place);
+        self.header = None;
+        self.head.clear();
+        Ok(())
+    }
 }
