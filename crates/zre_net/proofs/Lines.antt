@@ -1,12 +1,11 @@
 -- Texts, line by line.
-use Rattle.std.proofs.Common.{◌≡◌, ℕ, ◌+◌, ◌<◌, ◌==◌, ◌&&◌, not, cond, List, [], ◌∷◌, ◌++◌, length, Option, Some, None, refl, sym, ap, ◌∙◌, arith, append_assoc, append-nil}
+use Rattle.std.proofs.Common.{◌≡◌, ℕ, ◌+◌, ◌<◌, ◌==◌, ◌&&◌, not, cond, List, [], ◌∷◌, ◌++◌, length, Option, Some, None, refl, ap, ◌∙◌, arith}
 use Rattle.std.proofs.lemmas.List.Splits.{length-slice_split}
 use Rattle.zre_capture.specs.Parts.{Lacks}
 use Rattle.zre_capture.proofs.Parts.{between-cut, between-whole}
 use Rattle.zre_capture.proofs.Columns.{but_last-more}
-use Rattle.zre_net.specs.declared.moves.Move.{Move}
 use Rattle.zre_net.specs.Fields.{move_of}
-use Rattle.zre_net.specs.Reading.{parts_in, but_last, lines_in, is_line, bad_from, with_first, moves_in}
+use Rattle.zre_net.specs.Reading.{parts_in, but_last, lines_in, is_line, bad_from, with_first, moves_in, moves_of}
 
 pub some_parts : (text : List ℕ) → 0 < length (parts_in text)
 some_parts text = omega (arith, length-slice_split (λ b. b == 10) text)
@@ -31,19 +30,18 @@ lines-cut text line after e none = ap but_last (between-cut 10 text line after e
 pub lines-whole : (text : List ℕ) → Lacks 10 text → lines_in text ≡ []
 lines-whole text none = ap but_last (between-whole 10 text none)
 
-first_joined : (o : Option Move) (ms : List Move) → with_first o ms ≡ with_first o [] ++ ms
-first_joined None ms = refl
-first_joined (Some m) ms = refl
+pub moves-cut : (text line after : List ℕ) → text ≡ line ++ (10 ∷ after) → Lacks 10 line → moves_in (lines_in text) ≡ with_first (move_of line) (moves_in (lines_in after))
+moves-cut text line after e none = ap moves_in (lines-cut text line after e none)
 
--- with the move of one line more
-pub moves-cut : (done : List Move) (text line after : List ℕ) → text ≡ line ++ (10 ∷ after) → Lacks 10 line
-    → (done ++ moves_in (line ∷ [])) ++ moves_in (lines_in after) ≡ done ++ moves_in (lines_in text)
-moves-cut done text line after e none =
-    append_assoc done (moves_in (line ∷ [])) (moves_in (lines_in after))
-    ∙ ap (λ ms. done ++ ms) (sym (first_joined (move_of line) (moves_in (lines_in after))) ∙ sym (ap moves_in (lines-cut text line after e none)))
+pub moves-whole : (text : List ℕ) → Lacks 10 text → moves_in (lines_in text) ≡ []
+moves-whole text none = ap moves_in (lines-whole text none)
 
-pub moves-whole : (done : List Move) (text : List ℕ) → Lacks 10 text → done ++ moves_in (lines_in text) ≡ done
-moves-whole done text none = ap (λ ls. done ++ moves_in ls) (lines-whole text none) ∙ append-nil done
+-- the head says none
+pub head-cut : (text head after : List ℕ) → text ≡ head ++ (10 ∷ after) → Lacks 10 head → moves_of (lines_in text) ≡ moves_in (lines_in after)
+head-cut text head after e none = ap moves_of (lines-cut text head after e none)
+
+pub head-whole : (text : List ℕ) → Lacks 10 text → moves_of (lines_in text) ≡ []
+head-whole text none = ap moves_of (lines-whole text none)
 
 -- ---- the end
 

@@ -1,5 +1,5 @@
 -- Moves, one after the other.
-use Rattle.std.proofs.Common.{◌≡◌, ℕ, ◌+◌, Bool, true, false, cond, ◌&&◌, List, [], ◌∷◌, ◌++◌, length, Some, None, refl, sym, ap, ◌∙◌, arith, true≢false, append-nil}
+use Rattle.std.proofs.Common.{◌≡◌, ℕ, ◌+◌, Bool, true, false, cond, ◌&&◌, List, [], ◌∷◌, ◌++◌, length, Some, None, refl, sym, ap, ◌∙◌, subst, arith, true≢false, append-nil, append_assoc}
 use Rattle.zre_net.specs.declared.moves.Move.{Move}
 use Rattle.zre_net.specs.declared.running.network.Network.{Network}
 use Rattle.zre_net.specs.Answer.{bad_move, bad_move_after}
@@ -41,7 +41,26 @@ goes_on ys m line net new g h = record { runs = h; line_is = let l = g.line_is i
 pub stops_at : (ys zs : List Move) (m : Move) (line : ℕ) (net : Network) → Goes ys line net → false ≡ is_good m (history ys) → bad_move (ys ++ m ∷ zs) ≡ Some line
 stops_at ys zs m line net g bad = bad_at line ys (m ∷ zs) g.runs.all_good g.line_is ∙ ap (λ b. cond b (bad_move_after (line + 1) zs (with_move m (history ys))) (Some line)) (sym bad)
 
--- all have come
-pub took_all : (given came left : List Move) (n : ℕ) → given ≡ came ++ left → n ≡ length left → n ≡ 0 → came ≡ given
-took_all given came [] n is long none = sym (append-nil came) ∙ sym is
-took_all given came (m ∷ ms) n is long none = absurd (omega (arith, long, none))
+-- ---- moves that are read one by one
+
+-- of these moves some have come, of which Is holds, and these are left
+pub record Partly (moves left : List Move) (Is : List Move → Type 0) : Type 0 where
+  pub came : List Move
+  pub is : Is came
+  pub all : moves ≡ came ++ left
+
+pub none_came : (moves : List Move) (Is : List Move → Type 0) → Is [] → Partly moves moves Is
+none_came moves Is is = record { came = []; is = is; all = refl }
+
+pub with_next : (moves left after : List Move) (Is : List Move → Type 0) (m : Move) (p : Partly moves left Is) → left ≡ m ∷ after → moves ≡ p.came ++ m ∷ after
+with_next moves left after Is m p e = p.all ∙ ap (λ ms. p.came ++ ms) e
+
+pub one_came : (moves left after : List Move) (Is Js : List Move → Type 0) (m : Move) (p : Partly moves left Is) → left ≡ m ∷ after → Js (p.came ++ m ∷ []) → Partly moves after Js
+one_came moves left after Is Js m p e is = record {
+  came = p.came ++ m ∷ [];
+  is = is;
+  all = with_next moves left after Is m p e ∙ sym (append_assoc p.came (m ∷ []) after);
+}
+
+pub all_came : (moves left : List Move) (Is : List Move → Type 0) → Partly moves left Is → left ≡ [] → Is moves
+all_came moves left Is p none = subst Is (sym (append-nil p.came) ∙ ap (λ ms. p.came ++ ms) (sym none) ∙ sym p.all) p.is

@@ -1,6 +1,6 @@
 -- Schedules as they are read: a head, and a line for each move.
-use Rattle.std.specs.Prelude.{ℕ, ◌+◌, ◌==◌, Bool, not, ◌&&◌, nat_le, if◌then◌else◌, List, [], ◌∷◌, length, Option, Some}
-use Rattle.std.specs.Prelude.{None, is_some, codes}
+use Rattle.std.specs.Prelude.{◌≡◌, ℕ, ◌+◌, ◌==◌, Bool, not, ◌&&◌, nat_le, if◌then◌else◌, List, [], ◌∷◌, length, Option}
+use Rattle.std.specs.Prelude.{Some, None, is_some, codes}
 use Rattle.std.specs.Str.{bytes_eq}
 use Rattle.zre_capture.specs.Parts.{between}
 use Rattle.zre_capture.specs.declared.format.TheConstants.{LINE_OCTETS}
@@ -55,3 +55,8 @@ moves_in (line ∷ lines) = with_first (move_of line) (moves_in lines)
 abbrev pub moves_of : List (List ℕ) → List Move
 moves_of [] = []
 moves_of (head ∷ lines) = moves_in lines
+
+-- the next of the moves that are left, if there is one, and those after it
+abbrev pub IsNext : Option Move → List Move → List Move → Type 0
+IsNext None left after = (left ≡ []) × (after ≡ [])
+IsNext (Some m) left after = left ≡ m ∷ after

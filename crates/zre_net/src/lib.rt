@@ -16,6 +16,6 @@ pub use laws::{
     few_messages_are_within_the_window, links_only_grow, long_texts_are_refused_early, nodes_agree,
     pieces_are_a_front_of_what_is_carried, schedules_are_short,
 };
-pub use moves::{Move, Moves, Part};
-pub use reading::{Schedule, read_schedule};
+pub use moves::{Move, Part};
+pub use reading::{MoveReader, Schedule, check_schedule, read_schedule};
 pub use running::{Network, SaidEvents, run_schedule};

@@ -1,7 +1,7 @@
 //! The moves of a schedule.
 
 use zre_outside::Command;
-use zre_values::{List, Octets, PeerId};
+use zre_values::{Octets, PeerId};
 
 /// What a connection is made to carry: a part of what the node at the other end of its link says.
 #[derive(Clone, Copy)]
@@ -93,6 +93,3 @@ pub enum Move {
         at: u64,
     },
 }
-
-/// The moves of a schedule, in their order.
-pub type Moves = List<Move>;

@@ -3,7 +3,8 @@
 mod fields;
 mod line;
 mod lines;
+mod reader;
 mod schedule;
 
-pub(crate) use lines::moves_of;
-pub use schedule::{Schedule, read_schedule};
+pub use reader::MoveReader;
+pub use schedule::{Schedule, check_schedule, read_schedule};

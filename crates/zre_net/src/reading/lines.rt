@@ -1,11 +1,10 @@
 //! Texts, line by line.
 
-ghost use Rattle.std.specs.Prelude.{◌≡◌, ◌==◌, ◌≤◌, ◌&&◌, not, length, ◌++◌, ◌∷◌, [], IfOk, OnOk};
+ghost use Rattle.std.specs.Prelude.{◌≡◌, ◌==◌, ◌≤◌, ◌&&◌, not, length, IfOk};
 ghost use Rattle.std.specs.Bool.{OnTrue};
-ghost use Rattle.zre_net.specs.Reading.{says, is_line, bad_line, lines_in, moves_in, moves_of as moves_of_lines};
+ghost use Rattle.zre_net.specs.Reading.{says, is_line, bad_line};
 
 use crate::limits::{LINES, OCTETS};
-use crate::moves::{Move, Moves};
 use crate::reading::line::read_move;
 use std::alloc::Global;
 use zre_capture::{LINE_OCTETS, split_once};
@@ -65,33 +64,4 @@ pub(crate) fn bad_line(alloc: Global, text: &[u8]) -> Result<Option<u64>, OutOfM
         return Ok(None);
     }
     Ok(Some(n))
-}
-
-// Appends the move of a line.
-fn push_move(alloc: Global, moves: &mut Moves, line: &[u8]) -> Result<(), OutOfMemory>
-    ensures { OnOk result (moves.new ≡ moves.old ++ moves_in (line.now ∷ [])) }
-{
-    match read_move(alloc, line)? {
-        Some(said) => moves.push(said),
-        None => Ok(()),
-    }
-}
-
-/// The moves of the lines of a text, whose first line is the head.
-pub(crate) fn moves_of(alloc: Global, text: &[u8]) -> Result<Moves, OutOfMemory>
-    ensures { IfOk result (λ moves. moves ≡ moves_of_lines (lines_in text.now)) }
-{
-    let mut moves = Moves::new(alloc);
-    let Some((_, others)) = split_once(text, b'\n') else {
-        return Ok(moves);
-    };
-    let mut rest = others;
-    'lines: while let Some((line, after)) = split_once(rest, b'\n') {
-        let Ok(()) = push_move(alloc, &mut moves, line) else {
-            drop(moves);
-            return Err(OutOfMemory);
-        };
-        rest = after;
-    }
-    Ok(moves)
 }

@@ -1,13 +1,13 @@
-ghost use Rattle.std.specs.Prelude.{◌≡◌, None, Some, IfOk, IfErr};
-ghost use Rattle.zre_net.specs.Reading.{bad_line as bad_line_of, lines_in, moves_of as moves_of_lines};
+ghost use Rattle.std.specs.Prelude.{◌≡◌, None, Some, IfOk, IfErr, OnOk};
+ghost use Rattle.zre_net.specs.Reading.{bad_line as bad_line_of, lines_in, moves_of};
 ghost use Rattle.zre_net.specs.Answer.{Refuses};
 
 use crate::fault::{BadSchedule, ScheduleFault};
-use crate::moves::Moves;
-use crate::reading::lines::{bad_line, moves_of};
+use crate::reading::lines::bad_line;
+use crate::reading::reader::MoveReader;
 use std::alloc::Global;
 use std::marker::Model;
-use zre_values::{Octets, OutOfMemory};
+use zre_values::Octets;
 
 /// A schedule: lines that were read. It is seen as the list of them, without their line feeds.
 #[derive(Drop)]
@@ -28,10 +28,21 @@ impl Model for Schedule {
 
 impl Schedule {
     /// The moves of its lines, to be run one by one.
-    pub fn moves(&self) -> Result<Moves, OutOfMemory>
-        ensures { IfOk result (λ moves. moves ≡ moves_of_lines self.now) }
+    pub fn moves(&self) -> MoveReader<'_>
+        ensures { result ≡ moves_of self.now }
     {
-        moves_of(self.alloc, self.text.as_slice())
+        MoveReader::new(self.alloc, self.text.as_slice())
+    }
+}
+
+/// Tests a text where it lies, as `read_schedule` does.
+pub fn check_schedule(alloc: Global, text: &[u8]) -> Result<(), ScheduleFault>
+    ensures good { OnOk result (bad_line_of text.now ≡ None) }
+    ensures refused { IfErr result (λ fault. Refuses fault (λ number. bad_line_of text.now ≡ Some number)) }
+{
+    match bad_line(alloc, text)? {
+        Some(number) => Err(ScheduleFault::Bad(BadSchedule { number })),
+        None => Ok(()),
     }
 }
 
@@ -42,11 +53,9 @@ pub fn read_schedule(alloc: Global, text: &[u8]) -> Result<Schedule, ScheduleFau
     ensures read { IfOk result (λ schedule. (bad_line_of text.now ≡ None) × (schedule ≡ lines_in text.now)) }
     ensures refused { IfErr result (λ fault. Refuses fault (λ number. bad_line_of text.now ≡ Some number)) }
 {
-    match bad_line(alloc, text)? {
-        Some(number) => Err(ScheduleFault::Bad(BadSchedule { number })),
-        None => Ok(Schedule {
-            alloc,
-            text: Octets::copy(alloc, text)?,
-        }),
-    }
+    check_schedule(alloc, text)?;
+    Ok(Schedule {
+        alloc,
+        text: Octets::copy(alloc, text)?,
+    })
 }

@@ -5,8 +5,7 @@ ghost use Rattle.zre_net.specs.Reading.{moves_of};
 ghost use Rattle.zre_net.specs.Said.{said as said_by};
 
 use crate::fault::{BadSchedule, ScheduleFault};
-use crate::moves::Moves;
-use crate::reading::Schedule;
+use crate::reading::{MoveReader, Schedule};
 use crate::running::network::Network;
 use crate::running::said::SaidEvents;
 use std::alloc::Global;
@@ -24,15 +23,15 @@ fn append(said: &mut SaidEvents, told: SaidEvents) -> Result<(), OutOfMemory>
 }
 
 // Runs moves.
-fn run(alloc: Global, moves: Moves) -> Result<SaidEvents, ScheduleFault>
-    ensures told { IfOk result (λ said. (bad_move moves ≡ None) × (said ≡ said_by moves)) }
-    ensures refused { IfErr result (λ fault. Refuses fault (λ number. bad_move moves ≡ Some number)) }
+fn run(alloc: Global, mut moves: MoveReader<'_>) -> Result<SaidEvents, ScheduleFault>
+    ensures told { IfOk result (λ said. (bad_move moves.entry ≡ None) × (said ≡ said_by moves.entry)) }
+    ensures refused { IfErr result (λ fault. Refuses fault (λ number. bad_move moves.entry ≡ Some number)) }
 {
     let mut network = Network::new(alloc)?;
     let mut said = SaidEvents::new(alloc);
     let mut told = SaidEvents::new(alloc);
     let mut line: u64 = 2;
-    for one in moves.into_vec() {
+    'moves: while let Some(one) = moves.next()? {
         if !network.take(one, &mut told)? {
             return Err(ScheduleFault::Bad(BadSchedule { number: line }));
         }
@@ -54,5 +53,5 @@ pub fn run_schedule(alloc: Global, schedule: &Schedule) -> Result<SaidEvents, Sc
     ensures refused { IfErr result (λ fault. Refuses fault (λ number. bad_move (moves_of schedule.now) ≡ Some number)) }
     ensures agreed { OnOk result (IsAgreed (moves_of schedule.now)) }
 {
-    run(alloc, schedule.moves()?)
+    run(alloc, schedule.moves())
 }

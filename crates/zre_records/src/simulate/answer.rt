@@ -12,7 +12,7 @@ ghost use Rattle.zre_records.specs.simulate.Simulate.{told_line, told_lines, ans
 
 use std::alloc::Global;
 use zre_commands::pump::push_bad_line;
-use zre_net::{BadSchedule, Moves, Network, SaidEvents, Schedule, ScheduleFault, read_schedule};
+use zre_net::{BadSchedule, MoveReader, Network, SaidEvents, ScheduleFault, check_schedule};
 use zre_outside::{NextFault, Sink, write_much};
 use zre_peer::{Event, push_line};
 use zre_values::{Octets, OutOfMemory, push_decimal};
@@ -89,16 +89,16 @@ fn keep_told(kept: &mut Option<Octets>, told: &[(u8, Event)]) -> Result<(), OutO
 }
 
 // Runs moves, to find one that can't come. What the nodes tell is kept as text as long as it is short.
-fn try_moves(alloc: Global, moves: Moves) -> Result<Option<Octets>, ScheduleFault>
-    ensures told { IfOk result (λ kept. (bad_move moves ≡ None)
-        × IfSome kept (λ text. text ≡ told_lines (said moves))) }
-    ensures refused { IfErr result (λ fault. Refuses fault (λ number. bad_move moves ≡ Some number)) }
+fn try_moves(alloc: Global, mut moves: MoveReader<'_>) -> Result<Option<Octets>, ScheduleFault>
+    ensures told { IfOk result (λ kept. (bad_move moves.entry ≡ None)
+        × IfSome kept (λ text. text ≡ told_lines (said moves.entry))) }
+    ensures refused { IfErr result (λ fault. Refuses fault (λ number. bad_move moves.entry ≡ Some number)) }
 {
     let mut network = Network::new(alloc)?;
     let mut told = SaidEvents::new(alloc);
     let mut kept = Some(Octets::new(alloc));
     let mut line: u64 = 2;
-    for one in moves.into_vec() {
+    'moves: while let Some(one) = moves.next()? {
         if !network.take(one, &mut told)? {
             return Err(ScheduleFault::Bad(BadSchedule { number: line }));
         }
@@ -114,22 +114,22 @@ fn try_moves(alloc: Global, moves: Moves) -> Result<Option<Octets>, ScheduleFaul
 // Runs moves of which each can come, and writes what the nodes tell as they tell it.
 fn write_moves<O: Sink>(
     alloc: Global,
-    moves: Moves,
+    mut moves: MoveReader<'_>,
     text: &mut Octets,
     out: &mut O,
 ) -> Result<(), NextFault>
     // What was written, and what is gathered; after an error a front of that.
     ensures through { OnOk result
-        (WritesThrough text.old text.new (O.written out.old) (O.written out.new) (told_lines (said moves))) }
+        (WritesThrough text.old text.new (O.written out.old) (O.written out.new) (told_lines (said moves.entry))) }
     ensures front { OnErr result
-        (AppendsFront (O.written out.old) (O.written out.new) (text.old ++ told_lines (said moves))) }
+        (AppendsFront (O.written out.old) (O.written out.new) (text.old ++ told_lines (said moves.entry))) }
     // The count rises where the sink failed.
     ensures later { O.faults out.old ≤ O.faults out.new }
     ensures failed { IsErrOf result NextFault.Failed → Rose (O.faults out.old) (O.faults out.new) }
 {
     let mut network = Network::new(alloc)?;
     let mut told = SaidEvents::new(alloc);
-    for one in moves.into_vec() {
+    'moves: while let Some(one) = moves.next()? {
         if !network.take(one, &mut told)? {
             return Err(NextFault::OutOfMemory);
         }
@@ -156,49 +156,50 @@ fn write_kept<O: Sink>(kept: &[u8], gathered: &mut Octets, out: &mut O) -> Resul
 // Writes what the nodes of a schedule tell: as it was kept, or once more as they tell it.
 fn write_told<O: Sink>(
     alloc: Global,
-    schedule: &Schedule,
+    schedule: &[u8],
     kept: Option<Octets>,
     gathered: &mut Octets,
     out: &mut O,
 ) -> Result<(), NextFault>
     // What was written, and what is gathered; after an error a front of that.
-    ensures through { IfSome kept (λ text. text ≡ told_lines (said (moves_of schedule.now))) → OnOk result
+    ensures through { IfSome kept (λ text. text ≡ told_lines (said (moves_of (lines_in schedule.now)))) → OnOk result
         (WritesThrough gathered.old gathered.new (O.written out.old) (O.written out.new)
-        (told_lines (said (moves_of schedule.now)))) }
-    ensures front { IfSome kept (λ text. text ≡ told_lines (said (moves_of schedule.now))) → OnErr result
+        (told_lines (said (moves_of (lines_in schedule.now))))) }
+    ensures front { IfSome kept (λ text. text ≡ told_lines (said (moves_of (lines_in schedule.now)))) → OnErr result
         (AppendsFront (O.written out.old) (O.written out.new)
-        (gathered.old ++ told_lines (said (moves_of schedule.now)))) }
+        (gathered.old ++ told_lines (said (moves_of (lines_in schedule.now))))) }
     // The count rises where the sink failed.
     ensures later { O.faults out.old ≤ O.faults out.new }
     ensures failed { IsErrOf result NextFault.Failed → Rose (O.faults out.old) (O.faults out.new) }
 {
     match kept {
         Some(text) => write_kept(text.as_slice(), gathered, out),
-        None => write_moves(alloc, schedule.moves()?, gathered, out),
+        None => write_moves(alloc, MoveReader::new(alloc, schedule), gathered, out),
     }
 }
 
-// Writes what a schedule comes to, which was read from a text. Its moves are run to find one that can't come, and once
-// more to write what the nodes tell, unless that was short: so it never lies whole in memory.
+// Writes what a schedule comes to, none of whose lines is bad. Its moves are run to find one that can't come, and once
+// more to write what the nodes tell, unless that was short. They are read from the text as they are due: so neither
+// they nor what they tell lies whole in memory.
 fn write_run<O: Sink>(
     alloc: Global,
-    schedule: &Schedule,
+    schedule: &[u8],
     gathered: &mut Octets,
     out: &mut O,
 ) -> Result<bool, NextFault>
+    requires { bad_line_of schedule.now ≡ None }
     // Whether a move can't be made.
-    ensures bad { (text : List ℕ) → bad_line_of text ≡ None → schedule.now ≡ lines_in text →
-        IfOk result (λ bad. bad ≡ is_some (bad_in text)) }
+    ensures bad { IfOk result (λ bad. bad ≡ is_some (bad_in schedule.now)) }
     // What was written, and what is gathered; after an error a front of that.
-    ensures through { (text : List ℕ) → bad_line_of text ≡ None → schedule.now ≡ lines_in text → OnOk result
-        (WritesThrough gathered.old gathered.new (O.written out.old) (O.written out.new) (answer text)) }
-    ensures front { (text : List ℕ) → bad_line_of text ≡ None → schedule.now ≡ lines_in text → OnErr result
-        (AppendsFront (O.written out.old) (O.written out.new) (gathered.old ++ answer text)) }
+    ensures through { OnOk result
+        (WritesThrough gathered.old gathered.new (O.written out.old) (O.written out.new) (answer schedule.now)) }
+    ensures front { OnErr result
+        (AppendsFront (O.written out.old) (O.written out.new) (gathered.old ++ answer schedule.now)) }
     // The count rises where the sink failed.
     ensures later { O.faults out.old ≤ O.faults out.new }
     ensures failed { IsErrOf result NextFault.Failed → Rose (O.faults out.old) (O.faults out.new) }
 {
-    match try_moves(alloc, schedule.moves()?) {
+    match try_moves(alloc, MoveReader::new(alloc, schedule)) {
         Ok(kept) => {
             write_told(alloc, schedule, kept, gathered, out)?;
             Ok(false)
@@ -226,8 +227,8 @@ pub(crate) fn write_answer<O: Sink>(
     ensures later { O.faults out.old ≤ O.faults out.new }
     ensures failed { IsErrOf result NextFault.Failed → Rose (O.faults out.old) (O.faults out.new) }
 {
-    match read_schedule(alloc, text) {
-        Ok(schedule) => write_run(alloc, &schedule, gathered, out),
+    match check_schedule(alloc, text) {
+        Ok(()) => write_run(alloc, text, gathered, out),
         Err(fault) => Ok(push_refusal(gathered, fault)?),
     }
 }

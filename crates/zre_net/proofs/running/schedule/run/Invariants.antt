@@ -1,12 +1,11 @@
-use Rattle.std.proofs.Common.{◌≡◌, ◌++◌}
-use Rattle.std.specs.Vec.Iter.{into_iter_items}
+use Rattle.std.proofs.Common.{◌≡◌, length}
 use Rattle.zre_net.specs.Running.{Goes}
 use Rattle.zre_net.specs.Said.{said}
+use Rattle.zre_net.proofs.Runs.{Partly}
 use Rattle.zre_net.proofs.running.schedule.run.Given as goal
 
-abbrev pub invariant-loop-one : goal.invariant-loop-one
-invariant-loop-one l = record {
-  goes : Goes l.yielded l.line l.network;
-  has_said : l.said ≡ said l.yielded;
-  rest : l.fn.moves ≡ l.yielded ++ into_iter_items l.one-iterator;
-}
+abbrev pub invariant-loop-moves : goal.invariant-loop-moves
+invariant-loop-moves l = Partly l.fn.moves l.moves (λ came. Goes came l.line l.network × (l.said ≡ said came))
+
+abbrev pub decreases-loop-moves : goal.decreases-loop-moves
+decreases-loop-moves l = length l.moves

@@ -10,5 +10,5 @@ use Rattle.zre_net.proofs.running.schedule.run_schedule.Goals as goal
 
 pub returns-clause-agreed : goal.returns-clause-agreed
 returns-clause-agreed c =
-    let e = c.in_ok-moves.ensures in
-    subst (λ ms. OnOk c.run.result (IsAgreed ms)) e (ran_agreed c.run.result c.in_ok-moves.field-0 (subst (AllByRecursion MayStart) (sym e) (are_fielded c.args.schedule.now)) (λ answer. answer ≡ said_by c.in_ok-moves.field-0) c.run.ensures.told)
+    let e = c.moves.ensures in
+    subst (λ ms. OnOk c.run.result (IsAgreed ms)) e (ran_agreed c.run.result c.moves.result (subst (AllByRecursion MayStart) (sym e) (are_fielded c.args.schedule.now)) (λ answer. answer ≡ said_by c.moves.result) c.run.ensures.told)

@@ -1,13 +1,14 @@
-use Rattle.std.proofs.Common.{◌≡◌, ◌++◌, ◌≤◌}
-use Rattle.std.specs.Vec.Iter.{into_iter_items}
+use Rattle.std.proofs.Common.{◌≤◌, length}
 use Rattle.zre_net.specs.Running.{HasRun}
+use Rattle.zre_net.proofs.Runs.{Partly}
 use Rattle.zre_records.proofs.simulate.Twice.{CameOf}
 use Rattle.zre_records.proofs.simulate.answer.write_moves.Given as goal
 
-abbrev pub invariant-loop-one : goal.invariant-loop-one
-invariant-loop-one g l = record {
-  runs : HasRun l.yielded l.network;
-  came : CameOf l.fn.text l.text (g.O.Sink.written l.fn.out) (g.O.Sink.written l.out) l.yielded;
+abbrev pub invariant-loop-moves : goal.invariant-loop-moves
+invariant-loop-moves g l = record {
+  runs : Partly l.fn.moves l.moves (λ came. HasRun came l.network × CameOf l.fn.text l.text (g.O.Sink.written l.fn.out) (g.O.Sink.written l.out) came);
   later : g.O.Sink.faults l.fn.out ≤ g.O.Sink.faults l.out;
-  rest : l.fn.moves ≡ l.yielded ++ into_iter_items l.one-iterator;
 }
+
+abbrev pub decreases-loop-moves : goal.decreases-loop-moves
+decreases-loop-moves g l = length l.moves
