@@ -1,11 +1,12 @@
 -- Moves, one after the other.
-use Rattle.std.proofs.Common.{◌≡◌, ℕ, ◌+◌, Bool, true, false, cond, ◌&&◌, List, [], ◌∷◌, ◌++◌, length, Some, None, refl, sym, ap, ◌∙◌, subst, arith, true≢false, append-nil, append_assoc}
+use Rattle.std.proofs.Common.{◌≡◌, ℕ, ◌+◌, Bool, true, false, cond, ◌&&◌, List, [], ◌∷◌, ◌++◌, length, Option, Some, None, refl, sym, ap, ◌∙◌, subst, arith, true≢false, append-nil, append_assoc}
 use Rattle.zre_net.specs.declared.moves.Move.{Move}
 use Rattle.zre_net.specs.declared.running.network.Network.{Network}
 use Rattle.zre_net.specs.Answer.{bad_move, bad_move_after}
 use Rattle.zre_net.specs.Comes.{with_move, history, history_after}
 use Rattle.zre_net.specs.Grammar.{has_room, is_good}
 use Rattle.zre_net.specs.History.{Happening}
+use Rattle.zre_net.specs.Reading.{IsNext}
 use Rattle.zre_net.specs.Running.{StandsAfter, IsPlayed, IsTaken, HasRun, Goes}
 
 -- a move that may come is within the grammar where there is room
@@ -52,15 +53,17 @@ pub record Partly (moves left : List Move) (Is : List Move → Type 0) : Type 0 
 pub none_came : (moves : List Move) (Is : List Move → Type 0) → Is [] → Partly moves moves Is
 none_came moves Is is = record { came = []; is = is; all = refl }
 
-pub with_next : (moves left after : List Move) (Is : List Move → Type 0) (m : Move) (p : Partly moves left Is) → left ≡ m ∷ after → moves ≡ p.came ++ m ∷ after
-with_next moves left after Is m p e = p.all ∙ ap (λ ms. p.came ++ ms) e
+pub with_next : (moves left after : List Move) (Is : List Move → Type 0) (o : Option Move) (m : Move) (p : Partly moves left Is) → IsNext o left after → o ≡ Some m → moves ≡ p.came ++ m ∷ after
+with_next moves left after Is o m p next is = p.all ∙ ap (λ ms. p.came ++ ms) (subst (λ found. IsNext found left after) is next)
 
-pub one_came : (moves left after : List Move) (Is Js : List Move → Type 0) (m : Move) (p : Partly moves left Is) → left ≡ m ∷ after → Js (p.came ++ m ∷ []) → Partly moves after Js
-one_came moves left after Is Js m p e is = record {
+pub one_came : (moves left after : List Move) (Is Js : List Move → Type 0) (o : Option Move) (m : Move) (p : Partly moves left Is) → IsNext o left after → o ≡ Some m → Js (p.came ++ m ∷ []) → Partly moves after Js
+one_came moves left after Is Js o m p next is now = record {
   came = p.came ++ m ∷ [];
-  is = is;
-  all = with_next moves left after Is m p e ∙ sym (append_assoc p.came (m ∷ []) after);
+  is = now;
+  all = with_next moves left after Is o m p next is ∙ sym (append_assoc p.came (m ∷ []) after);
 }
 
-pub all_came : (moves left : List Move) (Is : List Move → Type 0) → Partly moves left Is → left ≡ [] → Is moves
-all_came moves left Is p none = subst Is (sym (append-nil p.came) ∙ ap (λ ms. p.came ++ ms) (sym none) ∙ sym p.all) p.is
+pub all_came : (moves left after : List Move) (Is : List Move → Type 0) (o : Option Move) → Partly moves left Is → IsNext o left after → o ≡ None → Is moves
+all_came moves left after Is o p next none =
+    let ended = subst (λ found. IsNext found left after) none next in
+    subst Is (sym (append-nil p.came) ∙ ap (λ ms. p.came ++ ms) (sym ended.0) ∙ sym p.all) p.is
