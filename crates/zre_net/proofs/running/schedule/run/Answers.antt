@@ -22,10 +22,11 @@ loop-one-preserved c =
     let p = c.loop-one.invariant in
     let good = c.if-not-branch.false in
     let told = OnTrue_at good (c.in_ok-take.ensures.told p.came p.is.0.runs) in
-    one_came _ _ _ _ _ _ c.in-Some.one p c.in_ok-one.ensures c.in-Some.is
-    (subst (λ (n : ℕ). Goes (p.came ++ c.in-Some.one ∷ []) n c.take.new.self) (sym c.in-Some-checked_add.ensures.1)
-        (goes_on p.came c.in-Some.one c.loop-one.line c.loop-one.network c.take.new.self p.is.0 (OnTrue_at good (c.in_ok-take.ensures.runs p.came p.is.0.runs))),
-        c.in_ok-append.ensures ∙ ap (λ es. es ++ c.replace.result) p.is.1 ∙ ap (λ es. said p.came ++ es) (c.replace.ensures.value ∙ told) ∙ sym (said_on p.came c.in-Some.one))
+    one_came _ _ _ _ _ _ c.in-Some.one p c.in_ok-one.ensures c.in-Some.is (
+      subst (λ (n : ℕ). Goes (p.came ++ c.in-Some.one ∷ []) n c.take.new.self) (sym c.in-Some-checked_add.ensures.1)
+          (goes_on p.came c.in-Some.one c.loop-one.line c.loop-one.network c.take.new.self p.is.0 (OnTrue_at good (c.in_ok-take.ensures.runs p.came p.is.0.runs))),
+      c.in_ok-append.ensures ∙ ap (λ es. es ++ c.replace.result) p.is.1 ∙ ap (λ es. said p.came ++ es) (c.replace.ensures.value ∙ told) ∙ sym (said_on p.came c.in-Some.one),
+    )
 
 pub returns-clause-told : goal.returns-clause-told
 returns-clause-told c =

@@ -25,12 +25,13 @@ loop-one-preserved c =
     let p = c.loop-one.invariant in
     let good = c.if-not-branch.false in
     let told = OnTrue_at good (c.in_ok-take.ensures.told p.came p.is.0.runs) in
-    one_came _ _ _ _ _ _ c.in-Some.one p c.in_ok-one.ensures c.in-Some.is
-    (subst (λ (n : ℕ). Goes (p.came ++ c.in-Some.one ∷ []) n c.take.new.self) (sym c.in-Some-checked_add.ensures.1)
-        (goes_on p.came c.in-Some.one c.loop-one.line c.loop-one.network c.take.new.self p.is.0 (OnTrue_at good (c.in_ok-take.ensures.runs p.came p.is.0.runs))),
-        subst (λ (es : List (ℕ × Event)). IfSome c.keep_told.new.kept (λ text. text ≡ told_lines es))
-        (ap (λ es. said p.came ++ es) (c.as_slice.ensures ∙ told) ∙ sym (said_on p.came c.in-Some.one))
-        (c.in_ok-keep_told.ensures (said p.came) p.is.1))
+    one_came _ _ _ _ _ _ c.in-Some.one p c.in_ok-one.ensures c.in-Some.is (
+      subst (λ (n : ℕ). Goes (p.came ++ c.in-Some.one ∷ []) n c.take.new.self) (sym c.in-Some-checked_add.ensures.1)
+          (goes_on p.came c.in-Some.one c.loop-one.line c.loop-one.network c.take.new.self p.is.0 (OnTrue_at good (c.in_ok-take.ensures.runs p.came p.is.0.runs))),
+      subst (λ (es : List (ℕ × Event)). IfSome c.keep_told.new.kept (λ text. text ≡ told_lines es))
+          (ap (λ es. said p.came ++ es) (c.as_slice.ensures ∙ told) ∙ sym (said_on p.came c.in-Some.one))
+          (c.in_ok-keep_told.ensures (said p.came) p.is.1),
+    )
 
 pub returns-clause-told : goal.returns-clause-told
 returns-clause-told c =
