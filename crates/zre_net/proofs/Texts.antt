@@ -1,10 +1,11 @@
 -- Texts stay where they are as one more is put beside them, and so do the messages that have them.
-use Rattle.std.proofs.Common.{◌≡◌, ℕ, zero, suc, ◌+◌, List, [], ◌∷◌, ◌++◌, length, map, Option, Some, None, refl, sym, ap, ◌∙◌, subst, arith}
+use Rattle.std.proofs.Common.{◌≡◌, ℕ, zero, suc, ◌+◌, List, [], ◌∷◌, ◌++◌, length, map, Option, Some, None, take, drop, refl, sym, ap, ◌∙◌, subst, arith, append_assoc, append-nil}
 use Rattle.std.specs.Prelude.{Result, Ok, Err, OnErr, slice_get}
 use Rattle.std.specs.List.{AllByRecursion}
+use Rattle.std.proofs.lemmas.List.{drop-drop, take-append-drop}
 use Rattle.std.specs.Option.{option_map, option_map_or}
 use Rattle.zre_net.specs.declared.running.texts.Place.{Place}
-use Rattle.zre_net.specs.Lists.{nth}
+use Rattle.zre_net.specs.Lists.{nth, joined}
 use Rattle.zre_net.specs.Texts.{Text, numbered, text_at, IsPlaced, IsPut, IsOfText, messages_from, AreThere}
 use Rattle.zre_net.proofs.Listing.{some_one, nth_last, nth_more, all_map}
 
@@ -26,6 +27,19 @@ pub has_last : (texts now : List Text) (t : Text) (k n : ℕ) (m : List ℕ) →
 has_last texts now t k n m e c is =
     ap (λ ts. option_map (numbered k) (nth (n + 1) ts)) e ∙ ap (λ j. option_map (numbered k) (nth (j + 1) (texts ++ t ∷ []))) c
     ∙ ap (option_map (numbered k)) (nth_last texts t) ∙ ap Some is
+
+pub joined_more : (parts : List (List ℕ)) (part : List ℕ) → joined (parts ++ part ∷ []) ≡ joined parts ++ part
+joined_more [] part = append-nil part
+joined_more (p ∷ ps) part = ap (λ o. p ++ o) (joined_more ps part) ∙ sym (append_assoc p (joined ps) part)
+
+-- octets and one part more, of the rest of a text
+pub part_more : (octets all part : List ℕ) (from : ℕ) → all ++ drop from octets ≡ octets → part ≡ take (length part) (drop from octets) → (all ++ part) ++ drop (from + length part) octets ≡ octets
+part_more octets all part from was is =
+    let rest = drop from octets in
+    append_assoc all part (drop (from + length part) octets)
+    ∙ ap (λ o. all ++ (part ++ o)) (sym (drop-drop (length part) from octets))
+    ∙ ap (λ o. all ++ (o ++ drop (length part) rest)) is
+    ∙ ap (λ o. all ++ o) (take-append-drop (length part) rest) ∙ was
 
 -- ---- the messages of a link
 

@@ -1,13 +1,14 @@
 //! The texts of messages, of which many are short. Messages that differ in their numbers alone have one text.
 
-ghost use Rattle.std.specs.Prelude.{◌≡◌, ◌%◌, ◌++◌, ◌∷◌, [], List as Values, length, option_map, IfOk, IfSome};
+ghost use Rattle.std.specs.Prelude.{◌≡◌, ◌++◌, ◌∷◌, [], List as Values, length, option_map, IfOk, IfSome};
 ghost use Rattle.std.specs.Prelude.{ℕ, OnOk, OnErr};
 ghost use Rattle.std.specs.Bool.{OnTrue};
-ghost use Rattle.std.specs.Int.{w16, to_be_bytes};
 ghost use Rattle.zre_net.specs.Lists.{nth as nth_of};
-ghost use Rattle.zre_net.specs.Texts.{Text, has_number, numbered, text_at, IsPlaced, IsPut, IsOfText};
+ghost use Rattle.zre_net.specs.Texts.{Text, numbered, text_at, IsPlaced, IsPut, IsOfText};
 
 use crate::running::nth::nth;
+use crate::running::numbered::{is_numbered, place_of_number, write};
+use crate::running::rope::Rope;
 use crate::running::spelling::Spelling;
 use bytes::Bytes;
 use std::alloc::Global;
@@ -16,6 +17,9 @@ use zre_values::{List, Octets, OutOfMemory, take_apart};
 
 /// A text of as many octets is long: it is shared with those who hold the same, and a shorter one is copied.
 const LONG: usize = 128;
+
+/// A HELLO of as many octets shares parts with the newest HELLO.
+const IN_PARTS: usize = 1024;
 
 /// Where a text stands: among the octets of the short ones, after so many of them; or among the long ones. And after
 /// how many of its octets the number of a message stands in it, or 0.
@@ -27,9 +31,10 @@ pub(crate) enum Place {
 
 /// Texts, by their numbers from 1. A short one takes its octets and a place.
 pub(crate) struct Texts {
+    alloc: Global,
     places: List<Place>,
     short: Octets,
-    long: List<Bytes>,
+    long: List<Rope>,
     /// The newest text of a first message of a link, a HELLO, and the newest text: the next message may have the same,
     /// since what goes to many peers is put on their links one after the other.
     first: u32,
@@ -38,7 +43,7 @@ pub(crate) struct Texts {
 
 impl Drop for Texts {
     fn drop(self) {
-        take_apart!(self, Texts: places, short, long, first, last);
+        take_apart!(self, Texts: alloc, places, short, long, first, last);
     }
 }
 
@@ -54,111 +59,8 @@ impl Model for Texts {
     ghost invariant = { λ t. AllByRecursion (IsPlaced (length t.short) (length t.long)) t.places };
 }
 
-// The two octets of the number of a message.
-fn number_octets(number: u64) -> [u8; 2]
-    ensures { result ≡ to_be_bytes w16 (number % 65536) }
-{
-    ((number % 65536) as u16).to_be_bytes()
-}
-
-// Whether the number of a message stands in a text.
-fn has_number(octets: &[u8], at: u8) -> bool
-    ensures { result ≡ has_number (record { octets = octets.now; at = at }) }
-{
-    0 < at && at as usize + 2 <= octets.len()
-}
-
-// What comes after these octets, where octets begin with them.
-fn after<'a>(octets: &'a [u8], front: &[u8]) -> Option<&'a [u8]>
-    ensures { IfSome result (λ rest. front.now ++ rest.now ≡ octets.now) }
-{
-    if octets.len() < front.len() {
-        return None;
-    }
-    let (head, rest) = octets.split_at(front.len());
-    if head == front { Some(rest) } else { None }
-}
-
-// Whether octets are these three, one after the other.
-fn is_joined(octets: &[u8], front: &[u8], middle: &[u8], rest: &[u8]) -> bool
-    ensures { OnTrue result (front.now ++ (middle.now ++ rest.now) ≡ octets.now) }
-{
-    let Some(later) = after(octets, front) else {
-        return false;
-    };
-    let Some(last) = after(later, middle) else {
-        return false;
-    };
-    rest == last
-}
-
-// Whether a message with this number has this text.
-fn is_numbered(octets: &[u8], at: u8, number: u64, message: &[u8]) -> bool
-    ensures { OnTrue result (numbered number (record { octets = octets.now; at = at }) ≡ message.now) }
-{
-    if !has_number(octets, at) {
-        return octets == message;
-    }
-    let at = at as usize;
-    let own = number_octets(number);
-    is_joined(message, &octets[..at], &own, &octets[at + 2..])
-}
-
-// After how many octets the number of a message stands in it, as ZRE is framed in ZMTP: after flags, a size of one
-// octet or of eight, signature, command and version. 0 where this number isn't there.
-fn place_of_number(message: &[u8], number: u64) -> u8
-    ensures { numbered number (record { octets = message.now; at = result }) ≡ message.now }
-{
-    let at = match message.first() {
-        Some(flags) if *flags >= 2 => 13,
-        _ => 6,
-    };
-    if is_numbered(message, at, number, message) {
-        at
-    } else {
-        0
-    }
-}
-
-// The octets of a text with this number, and where they end: all of it, where the number doesn't stand in it.
-fn write(alloc: Global, octets: &[u8], at: u8, number: u64) -> Result<Bytes, OutOfMemory>
-    ensures { IfOk result (λ b. b ≡ numbered number (record { octets = octets.now; at = at })) }
-{
-    if !has_number(octets, at) {
-        return Ok(Bytes::copy_from_slice(alloc, octets)?);
-    }
-    let at = at as usize;
-    let mut message = Vec::with_capacity(alloc, octets.len())?;
-    message.extend_from_slice(&octets[..at])?;
-    message.extend_from_slice(&number_octets(number))?;
-    message.extend_from_slice(&octets[at + 2..])?;
-    Ok(Bytes::from_vec(message)?)
-}
-
-// A text with this number. What comes after the number is shared.
-fn share(alloc: Global, text: &Bytes, at: u8, number: u64) -> Result<Spelling, OutOfMemory>
-    ensures { IfOk result (λ s. s ≡ numbered number (record { octets = text.now; at = at })) }
-{
-    let mut shared = text.clone()?;
-    if !has_number(text.as_slice(), at) {
-        return Ok(Spelling {
-            own: Bytes::new(),
-            shared,
-        });
-    }
-    let at = at as usize;
-    let mut own = Vec::with_capacity(alloc, at + 2)?;
-    own.extend_from_slice(&text.as_slice()[..at])?;
-    own.extend_from_slice(&number_octets(number))?;
-    shared.advance(at + 2);
-    Ok(Spelling {
-        own: Bytes::from_vec(own)?,
-        shared,
-    })
-}
-
 // A text is put among the long ones, or nothing is changed.
-fn put_long(long: &mut List<Bytes>, text: Bytes, at: u8) -> Result<Place, OutOfMemory>
+fn put_long(long: &mut List<Rope>, text: Rope, at: u8) -> Result<Place, OutOfMemory>
     ensures ok { (short : Values ℕ) → IfOk result (λ place.
         IsPut short long.old (record { octets = text; at = at }) place short long.new) }
     ensures err { OnErr result (long.new ≡ long.old) }
@@ -175,12 +77,24 @@ fn put_long(long: &mut List<Bytes>, text: Bytes, at: u8) -> Result<Place, OutOfM
     })
 }
 
-// A text is put where it belongs, or nothing is changed.
+// A long text: as it is, or beside another long one.
+fn rope(alloc: Global, long: &[Rope], text: Bytes, beside: Option<u32>) -> Result<Rope, OutOfMemory>
+    ensures { IfOk result (λ r. r ≡ text) }
+{
+    match beside {
+        Some(place) => Rope::beside(alloc, text.as_slice(), long.get(place as usize)),
+        None => Ok(Rope::whole(alloc, text)),
+    }
+}
+
+// A text is put where it belongs, or nothing is changed. Among the long ones it may share parts with one of them.
 fn put(
+    alloc: Global,
     short: &mut Octets,
-    long: &mut List<Bytes>,
+    long: &mut List<Rope>,
     text: Bytes,
     at: u8,
+    beside: Option<u32>,
 ) -> Result<Place, OutOfMemory>
     ensures ok { IfOk result (λ place.
         IsPut short.old long.old (record { octets = text; at = at }) place short.new long.new) }
@@ -189,6 +103,7 @@ fn put(
     let start = short.len();
     let count = text.len();
     if count >= LONG || start > u32::MAX as usize {
+        let text = rope(alloc, long.as_slice(), text, beside)?;
         return put_long(long, text, at);
     }
     short.append(text.as_slice())?;
@@ -200,7 +115,7 @@ fn put(
 }
 
 // Whether a message with this number has the text at a place.
-fn is_at(short: &[u8], long: &[Bytes], place: Place, number: u64, message: &[u8]) -> bool
+fn is_at(short: &[u8], long: &[Rope], place: Place, number: u64, message: &[u8]) -> bool
     requires { IsPlaced (length short.now) (length long.now) place }
     ensures { OnTrue result (numbered number (text_at short.now long.now place) ≡ message.now) }
 {
@@ -209,9 +124,7 @@ fn is_at(short: &[u8], long: &[Bytes], place: Place, number: u64, message: &[u8]
             let from = start as usize;
             is_numbered(&short[from..from + count as usize], at, number, message)
         }
-        Place::Long { place, at } => {
-            is_numbered(long[place as usize].as_slice(), at, number, message)
-        }
+        Place::Long { place, at } => { long[place as usize].is(at, number, message) }
     }
 }
 
@@ -219,7 +132,7 @@ fn is_at(short: &[u8], long: &[Bytes], place: Place, number: u64, message: &[u8]
 fn spell(
     alloc: Global,
     short: &[u8],
-    long: &[Bytes],
+    long: &[Rope],
     place: Place,
     number: u64,
 ) -> Result<Spelling, OutOfMemory>
@@ -230,9 +143,9 @@ fn spell(
         Place::Short { start, count, at } => {
             let from = start as usize;
             let octets = &short[from..from + count as usize];
-            Ok(Spelling::of(write(alloc, octets, at, number)?))
+            Ok(Spelling::of(alloc, write(alloc, octets, at, number)?))
         }
-        Place::Long { place, at } => share(alloc, &long[place as usize], at, number),
+        Place::Long { place, at } => long[place as usize].spell(alloc, at, number),
     }
 }
 
@@ -242,6 +155,7 @@ impl Texts {
         ensures { result ≡ [] }
     {
         Texts {
+            alloc,
             places: List::new(alloc),
             short: Octets::new(alloc),
             long: List::new(alloc),
@@ -279,12 +193,30 @@ impl Texts {
         }
     }
 
+    // Beside which long text one with this number is put, where it may have parts of one: the newest HELLO, or none.
+    fn beside(&self, number: u64, text: &[u8]) -> Option<u32> {
+        if number != 1 || text.len() < IN_PARTS {
+            return None;
+        }
+        match nth(self.places.as_slice(), self.first as u64) {
+            Some(Place::Long { place, .. }) => Some(*place),
+            _ => Some(u32::MAX),
+        }
+    }
+
     // One more text, or nothing.
-    fn push(&mut self, text: Bytes, at: u8) -> Result<(), OutOfMemory>
+    fn push(&mut self, text: Bytes, at: u8, beside: Option<u32>) -> Result<(), OutOfMemory>
         ensures ok { OnOk result (self.new ≡ self.old ++ record { octets = text; at = at } ∷ []) }
         ensures err { OnErr result (self.new ≡ self.old) }
     {
-        let place = put(&mut self.short, &mut self.long, text, at)?;
+        let place = put(
+            self.alloc,
+            &mut self.short,
+            &mut self.long,
+            text,
+            at,
+            beside,
+        )?;
         self.places.push(place)
     }
 
@@ -299,7 +231,8 @@ impl Texts {
             return Err(OutOfMemory);
         }
         let at = place_of_number(message.as_slice(), number);
-        self.push(message, at)?;
+        let beside = self.beside(number, message.as_slice());
+        self.push(message, at, beside)?;
         Ok(count as u32 + 1)
     }
 

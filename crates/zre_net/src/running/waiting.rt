@@ -1,13 +1,14 @@
 //! What a connection has yet to hand in.
 
 ghost use Rattle.std.specs.Prelude.{◌≡◌, ◌++◌, ◌≤◌, [], length, take, drop, OnOk, IfOk};
+ghost use Rattle.zre_net.specs.Lists.{joined};
 
 use crate::running::spelling::Spelling;
 use bytes::Bytes;
 use std::alloc::Global;
 use std::collections::VecDeque;
 use std::marker::Model;
-use zre_values::{OutOfMemory, take_apart};
+use zre_values::{List, OutOfMemory, take_apart};
 
 /// Octets that wait: the rest of one part, and the parts after it. Parts are shared with those who hold the same.
 pub(crate) struct Waiting {
@@ -67,13 +68,24 @@ impl Waiting {
         Ok(())
     }
 
+    // The octets of some parts more wait.
+    fn push_all(&mut self, parts: List<Bytes>) -> Result<(), OutOfMemory>
+        ensures { OnOk result (self.new ≡ self.old ++ joined parts) }
+    {
+        for part in parts.into_vec() {
+            self.push(part)?;
+        }
+        Ok(())
+    }
+
     /// One part more waits.
     pub fn add(&mut self, part: Spelling) -> Result<(), OutOfMemory>
         ensures { OnOk result (self.new ≡ self.old ++ part) }
     {
-        let (own, shared) = part.apart();
+        let (own, shared, more) = part.apart();
         self.push(own)?;
-        self.push(shared)
+        self.push(shared)?;
+        self.push_all(more)
     }
 
     // Where the part at the front is taken whole, the next one stands there.
