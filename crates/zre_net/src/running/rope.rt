@@ -1,6 +1,6 @@
 //! Long texts, in parts. HELLOs that differ in a few groups share the parts in which they don't.
 
-ghost use Rattle.std.specs.Prelude.{◌≡◌, ◌<◌, ◌≤◌, ◌++◌, length, take, drop, IfOk, IfSome};
+ghost use Rattle.std.specs.Prelude.{◌≡◌, ◌<◌, ◌≤◌, ◌++◌, length, take, IfOk, IfSome};
 ghost use Rattle.std.specs.Bool.{OnTrue};
 ghost use Rattle.zre_net.specs.Lists.{joined};
 ghost use Rattle.zre_net.specs.Texts.{numbered};

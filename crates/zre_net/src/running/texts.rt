@@ -124,7 +124,7 @@ fn is_at(short: &[u8], long: &[Rope], place: Place, number: u64, message: &[u8])
             let from = start as usize;
             is_numbered(&short[from..from + count as usize], at, number, message)
         }
-        Place::Long { place, at } => { long[place as usize].is(at, number, message) }
+        Place::Long { place, at } => long[place as usize].is(at, number, message),
     }
 }
 
