@@ -31,7 +31,7 @@ fn run(alloc: Global, mut moves: MoveReader<'_>) -> Result<SaidEvents, ScheduleF
     let mut said = SaidEvents::new(alloc);
     let mut told = SaidEvents::new(alloc);
     let mut line: u64 = 2;
-    while let Some(one) = moves.next()? {
+    'lines: while let Some(one) = moves.next()? {
         if !network.take(one, &mut told)? {
             return Err(ScheduleFault::Bad(BadSchedule { number: line }));
         }

@@ -98,7 +98,7 @@ fn try_moves(alloc: Global, mut moves: MoveReader<'_>) -> Result<Option<Octets>,
     let mut told = SaidEvents::new(alloc);
     let mut kept = Some(Octets::new(alloc));
     let mut line: u64 = 2;
-    while let Some(one) = moves.next()? {
+    'lines: while let Some(one) = moves.next()? {
         if !network.take(one, &mut told)? {
             return Err(ScheduleFault::Bad(BadSchedule { number: line }));
         }
@@ -129,7 +129,7 @@ fn write_moves<O: Sink>(
 {
     let mut network = Network::new(alloc)?;
     let mut told = SaidEvents::new(alloc);
-    while let Some(one) = moves.next()? {
+    'lines: while let Some(one) = moves.next()? {
         if !network.take(one, &mut told)? {
             return Err(NextFault::OutOfMemory);
         }

@@ -4,8 +4,8 @@ use Rattle.zre_net.specs.Said.{said}
 use Rattle.zre_net.proofs.Runs.{Partly}
 use Rattle.zre_net.proofs.running.schedule.run.Given as goal
 
-abbrev pub invariant-loop-one : goal.invariant-loop-one
-invariant-loop-one l = Partly l.fn.moves l.moves (λ came. Goes came l.line l.network × (l.said ≡ said came))
+abbrev pub invariant-lines : goal.invariant-lines
+invariant-lines l = Partly l.fn.moves l.moves (λ came. Goes came l.line l.network × (l.said ≡ said came))
 
-abbrev pub decreases-loop-one : goal.decreases-loop-one
-decreases-loop-one l = length l.moves
+abbrev pub decreases-lines : goal.decreases-lines
+decreases-lines l = length l.moves

@@ -10,24 +10,24 @@ use Rattle.zre_net.proofs.Runs.{goes_first, goes_on, stops_at, none_came, with_n
 use Rattle.zre_records.specs.simulate.Simulate.{told_lines}
 use Rattle.zre_records.proofs.simulate.answer.try_moves.Goals as goal
 
-pub loop-one-init : goal.loop-one-init
-loop-one-init c = none_came _ _ (goes_first c.in_ok-network.network c.in_ok-network.ensures, c.new-2.ensures)
+pub lines-init : goal.lines-init
+lines-init c = none_came _ _ (goes_first c.in_ok-network.network c.in_ok-network.ensures, c.new-2.ensures)
 
 pub returns-then-not-branch-clause-refused : goal.returns-then-not-branch-clause-refused
 returns-then-not-branch-clause-refused c =
-    let p = c.loop-one.invariant in
+    let p = c.lines.invariant in
     ap bad_move (with_next _ _ _ _ _ c.in-Some.one p c.in_ok-one.ensures c.in-Some.is)
-    ∙ stops_at p.came c.next.new.self c.in-Some.one c.loop-one.line c.loop-one.network p.is.0
+    ∙ stops_at p.came c.next.new.self c.in-Some.one c.lines.line c.lines.network p.is.0
     (sym c.if-not-branch.true ∙ c.in_ok-take.ensures.good p.came p.is.0.runs)
 
-pub loop-one-preserved : goal.loop-one-preserved
-loop-one-preserved c =
-    let p = c.loop-one.invariant in
+pub lines-preserved : goal.lines-preserved
+lines-preserved c =
+    let p = c.lines.invariant in
     let good = c.if-not-branch.false in
     let told = OnTrue_at good (c.in_ok-take.ensures.told p.came p.is.0.runs) in
     one_came _ _ _ _ _ _ c.in-Some.one p c.in_ok-one.ensures c.in-Some.is (
       subst (λ (n : ℕ). Goes (p.came ++ c.in-Some.one ∷ []) n c.take.new.self) (sym c.in-Some-checked_add.ensures.1)
-          (goes_on p.came c.in-Some.one c.loop-one.line c.loop-one.network c.take.new.self p.is.0 (OnTrue_at good (c.in_ok-take.ensures.runs p.came p.is.0.runs))),
+          (goes_on p.came c.in-Some.one c.lines.line c.lines.network c.take.new.self p.is.0 (OnTrue_at good (c.in_ok-take.ensures.runs p.came p.is.0.runs))),
       subst (λ (es : List (ℕ × Event)). IfSome c.keep_told.new.kept (λ text. text ≡ told_lines es))
           (ap (λ es. said p.came ++ es) (c.as_slice.ensures ∙ told) ∙ sym (said_on p.came c.in-Some.one))
           (c.in_ok-keep_told.ensures (said p.came) p.is.1),
@@ -35,5 +35,5 @@ loop-one-preserved c =
 
 pub returns-clause-told : goal.returns-clause-told
 returns-clause-told c =
-    let all = all_came _ _ _ _ _ c.loop-one.invariant c.in_ok-one.ensures c.in_default.is in
+    let all = all_came _ _ _ _ _ c.lines.invariant c.in_ok-one.ensures c.in_default.is in
     (all.0.runs.all_good, all.1)

@@ -6,8 +6,8 @@ use Rattle.zre_net.proofs.Runs.{Partly}
 use Rattle.zre_records.specs.simulate.Simulate.{told_lines}
 use Rattle.zre_records.proofs.simulate.answer.try_moves.Given as goal
 
-abbrev pub invariant-loop-one : goal.invariant-loop-one
-invariant-loop-one l = Partly l.fn.moves l.moves (λ came. Goes came l.line l.network × IfSome l.kept (λ text. text ≡ told_lines (said came)))
+abbrev pub invariant-lines : goal.invariant-lines
+invariant-lines l = Partly l.fn.moves l.moves (λ came. Goes came l.line l.network × IfSome l.kept (λ text. text ≡ told_lines (said came)))
 
-abbrev pub decreases-loop-one : goal.decreases-loop-one
-decreases-loop-one l = length l.moves
+abbrev pub decreases-lines : goal.decreases-lines
+decreases-lines l = length l.moves
