@@ -1,7 +1,7 @@
 //! An application that drives two nodes in its own process, move by move, without a socket, a clock or a thread.
 
 use std::test::Fail;
-use zre_net::{Move, Network, SaidEvents, read_schedule};
+use zre_net::{Move, MoveReader, Network, SaidEvents};
 use zre_peer::Event;
 use zre_values::PeerId;
 
@@ -28,15 +28,13 @@ fn has_entered(told: &[(u8, Event)], node: u8, peer: PeerId) -> bool {
 fn two_nodes_meet_in_one_process(rt: HostRuntime) -> Result<(), Fail> {
     let mut network = Network::new(rt.alloc())?;
     let mut told = SaidEvents::new(rt.alloc());
-    let schedule = read_schedule(rt.alloc(), MEETING)?;
-    let mut moves = schedule.moves();
-    while let Some(one) = moves.next()? {
+    let mut moves = MoveReader::new(rt.alloc(), MEETING);
+    'moves: while let Some(one) = moves.next()? {
         assert!(rt; network.take(one, &mut told)?);
     }
     // Ann tells of Bob and knows him, each has made a link to the other, and no third node runs.
     assert!(rt; has_entered(told.as_slice(), 1, BOB));
-    assert!(rt; network.links() == 2);
-    assert!(rt; network.node(1).is_some_and(|ann| ann.peer(BOB).is_some()));
+    assert!(rt; network.links() == 2 && network.node(1).is_some_and(|ann| ann.peer(BOB).is_some()));
     assert!(rt; !network.take(Move::Tick { node: 3, at: 0 }, &mut told)?);
     Ok(())
 }
