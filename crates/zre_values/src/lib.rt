@@ -4,6 +4,7 @@
 
 mod decimals;
 mod endpoint;
+mod few_octets;
 mod frames;
 pub mod limits;
 mod list;
@@ -17,13 +18,13 @@ mod plain_id;
 mod quoted_table;
 mod quoting;
 mod settings;
-mod short;
 mod texts;
 mod unquoting;
 mod words;
 
 pub use decimals::read_decimal;
 pub use endpoint::{Endpoint, push_address, read_address};
+pub use few_octets::FewOctets;
 pub use frames::Frames;
 pub use list::{Keys, List};
 pub use memory::OutOfMemory;

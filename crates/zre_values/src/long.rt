@@ -1,6 +1,7 @@
 //! Many octets, in memory of their own. Its end is filled with zeros, so texts are written where they will stand.
 
-ghost use Rattle.std.specs.Prelude.{◌≡◌, ◌+◌, ◌≤◌, [], ◌∷◌, ◌++◌, flat_map, length, take, OnOk, OnErr};
+ghost use Rattle.std.specs.Prelude.{◌≡◌, ◌≤◌, [], ◌∷◌, ◌++◌, flat_map, length, OnOk, OnErr};
+ghost use Rattle.zre_values.specs.Stored.{MakesRoom};
 ghost use Rattle.zre_values.specs.Text.{quoted_octet};
 
 use crate::OutOfMemory;
@@ -31,13 +32,8 @@ const SPARE: usize = 4_096;
 #[cold]
 #[inline(never)]
 fn grow(items: &mut Vec<u8>, count: usize, more: usize) -> Result<(), OutOfMemory>
-    // What a caller knows.
     requires { count ≤ length items.old.items }
-    // What holds after each call.
-    ensures front { take count items.new.items ≡ take count items.old.items }
-    ensures kept { count ≤ length items.new.items }
-    // What holds after success.
-    ensures room { OnOk result (count + more ≤ length items.new.items) }
+    ensures { MakesRoom result count more items.old.items items.new.items }
 {
     let Some(size) = count.checked_add(more) else {
         return Err(OutOfMemory);
@@ -49,13 +45,8 @@ fn grow(items: &mut Vec<u8>, count: usize, more: usize) -> Result<(), OutOfMemor
 // Makes room for so many octets more after so many where it isn't there.
 #[inline(always)]
 fn make_room(items: &mut Vec<u8>, count: usize, more: usize) -> Result<(), OutOfMemory>
-    // What a caller knows.
     requires { count ≤ length items.old.items }
-    // What holds after each call.
-    ensures front { take count items.new.items ≡ take count items.old.items }
-    ensures kept { count ≤ length items.new.items }
-    // What holds after success.
-    ensures room { OnOk result (count + more ≤ length items.new.items) }
+    ensures { MakesRoom result count more items.old.items items.new.items }
 {
     if more <= items.len() - count {
         return Ok(());

@@ -2,17 +2,19 @@ ghost use Rattle.std.specs.Prelude.{◌≡◌, ◌==◌, ◌<◌, ◌≤◌, [],
 ghost use Rattle.std.specs.Prelude.{OnErr, Some, slice_get};
 ghost use Rattle.zre_values.specs.Text.{quoted_octet};
 
-use crate::OutOfMemory;
 use crate::long::Long;
 use crate::quoting::CHUNK;
-use crate::short::{INLINE, Short};
+use crate::{FewOctets, OutOfMemory};
 use std::alloc::Global;
 use std::default::MadeWith;
 use std::marker::Model;
 
+/// As many octets as most names, groups, first frames and short contents have.
+const INLINE: usize = 32;
+
 #[derive(Debug, Drop)]
 enum Buffer {
-    Inline(Short),
+    Inline(FewOctets<INLINE>),
     Heap(Long),
 }
 
@@ -41,7 +43,7 @@ impl Octets {
         ensures { result ≡ [] }
     {
         Octets {
-            store: Buffer::Inline(Short::new()),
+            store: Buffer::Inline(FewOctets::new()),
             alloc,
         }
     }
@@ -57,10 +59,8 @@ impl Octets {
                 alloc,
             });
         }
-        let mut short = Short::new();
-        short.append(bytes);
         Ok(Octets {
-            store: Buffer::Inline(short),
+            store: Buffer::Inline(FewOctets::of(bytes)),
             alloc,
         })
     }
@@ -76,10 +76,8 @@ impl Octets {
                 alloc,
             };
         }
-        let mut short = Short::new();
-        short.append(items.as_slice());
         Octets {
-            store: Buffer::Inline(short),
+            store: Buffer::Inline(FewOctets::of(items.as_slice())),
             alloc,
         }
     }

@@ -1,6 +1,6 @@
 -- Pieces that hold octets of both frames of a message.
 use Rattle.std.proofs.Common.{◌≡◌, ◌≢◌, ℕ, ◌+◌, ◌<◌, ◌≤◌, ◌++◌, List, [], ◌∷◌, length, true, false, Some, None, refl, sym, ap, subst, ◌∙◌, append_assoc, arith}
-use Rattle.std.specs.Prelude.{sum_by, option_to_list, Result, Ok, Err, IfOk}
+use Rattle.std.specs.Prelude.{option_to_list, Result, Ok, Err, IfOk}
 use Rattle.std.proofs.lemmas.List.{append-nil}
 use Rattle.std.proofs.lemmas.List.Sums.{sum_by-cons}
 use Rattle.zre_zmtp.specs.declared.across.Second.{Second}

@@ -1,11 +1,10 @@
 -- A message of one or two frames that lies whole at the front of octets.
-use Rattle.std.proofs.Common.{◌≡◌, ◌≢◌, ℕ, ◌+◌, ◌<◌, ◌≤◌, Bool, true, false, leb, ltb, List, [], ◌∷◌, ◌++◌, length, take, drop, Option, Some, None, refl, sym, ap, subst, ◌∙◌, arith, append_assoc}
+use Rattle.std.proofs.Common.{◌≡◌, ◌≢◌, ℕ, ◌+◌, ◌<◌, ◌≤◌, Bool, true, false, leb, List, [], ◌∷◌, ◌++◌, length, take, drop, Option, Some, None, refl, sym, ap, subst, ◌∙◌, arith, append_assoc}
 use Rattle.std.specs.Prelude.{sum_by, option_to_list, option_copied}
 use Rattle.std.proofs.lemmas.Bool.{le-leb, le-ltb, lt-leb, ltb-true}
-use Rattle.std.proofs.lemmas.List.{length-append, take-append-le, take_all, append-nil, drop_at}
-use Rattle.std.proofs.lemmas.List.Sums.{sum_by-append, sum_by-cons}
+use Rattle.std.proofs.lemmas.List.{length-append, take-append-le, take_all}
+use Rattle.std.proofs.lemmas.List.Sums.{sum_by-cons}
 use Rattle.zre_values.specs.declared.limits.TheConstants.{MESSAGE_FRAMES, MESSAGE_OCTETS}
-use Rattle.zre_zmtp.specs.declared.fault.ZmtpWhy.{ZmtpWhy}
 use Rattle.zre_zmtp.specs.declared.front.Front.{Front}
 use Rattle.zre_zmtp.specs.declared.header.Header.{Header}
 use Rattle.zre_zmtp.specs.declared.item.Item.{Item}
@@ -16,7 +15,7 @@ use Rattle.zre_zmtp.specs.Frame.{flags, header_len, has_header, size, header_of,
 use Rattle.zre_zmtp.specs.Front.{BeginsWith, Rests, passed, item_of, bodies_of, IsFront}
 use Rattle.zre_zmtp.specs.Reading.{Reading, Reads, Adds}
 use Rattle.zre_zmtp.specs.Shown.{header_fault, frame_item, frame_after, Advances}
-use Rattle.zre_zmtp.specs.Stream.{Want, Kind, Before, once, flags_fault, size_fault, body_fault}
+use Rattle.zre_zmtp.specs.Stream.{Want, Kind, Before, flags_fault, size_fault}
 use Rattle.zre_zmtp.proofs.Feeding.{fed}
 use Rattle.zre_zmtp.proofs.Framed.{HeadOf, head_of, IsHeader, is_header, is_framed, neither}
 use Rattle.zre_zmtp.proofs.Pieces.{adds-more}

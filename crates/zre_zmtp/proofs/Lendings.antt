@@ -1,16 +1,16 @@
 -- Pieces that a reader takes where they lie.
-use Rattle.std.proofs.Common.{◌≡◌, ℕ, ◌++◌, false, List, [], ◌∷◌, length, take, refl, sym, ap, subst, ◌∙◌, arith}
+use Rattle.std.proofs.Common.{◌≡◌, ℕ, ◌++◌, false, List, [], ◌∷◌, length, take, sym, ap, subst, ◌∙◌, arith}
 use Rattle.std.proofs.lemmas.List.{take_all}
 use Rattle.zre_zmtp.specs.declared.bodies.Came.{Came}
 use Rattle.zre_zmtp.specs.declared.bodies.Came.TheVariants as came
 use Rattle.zre_zmtp.specs.declared.bodies.LentBodies.{LentBodies}
 use Rattle.zre_zmtp.specs.declared.front.Front.{Front}
 use Rattle.zre_zmtp.specs.declared.progress.Progress.{Progress}
-use Rattle.zre_zmtp.specs.Front.{PassesOn, passed, item_of}
+use Rattle.zre_zmtp.specs.Front.{PassesOn, item_of}
 use Rattle.zre_zmtp.specs.Lending.{given, Brings, BringsOn, TakesPiece, TakesOn}
 use Rattle.zre_zmtp.specs.Reading.{Reading, Reads, Adds}
 use Rattle.zre_zmtp.specs.Shown.{before_of, left_of, Waits, Advances}
-use Rattle.zre_zmtp.specs.Stream.{Want, Kind, Before}
+use Rattle.zre_zmtp.specs.Stream.{Before}
 use Rattle.zre_zmtp.proofs.Feeding.{fed, waits_reader}
 
 -- a message that a piece is

@@ -20,4 +20,5 @@ pub mod Written
 pub mod Fronts
 pub mod Unfinished
 pub mod Crossings
+pub mod HeadParts
 pub mod Lendings

@@ -12,7 +12,7 @@ use Rattle.zre_zmtp.specs.declared.item.What.TheVariants.{Message}
 use Rattle.zre_zmtp.specs.declared.expected.Expected.TheVariants as expect
 use Rattle.zre_zmtp.specs.Frame.{header_of, header_len, is_message, has_more}
 use Rattle.zre_zmtp.specs.Lending.{bodies_in, given, EndsWith}
-use Rattle.zre_zmtp.specs.Stream.{Want, Before, body_fault}
+use Rattle.zre_zmtp.specs.Stream.{Want, Before}
 use Rattle.zre_zmtp.specs.Shown.{before_of, left_of, Waits, Advances, header_fault, frame_item, frame_after}
 use Rattle.zre_zmtp.proofs.Framed.{IsHeader, is_header, is_framed, left-nothing, left-partial, fine-from_waits, waits-body}
 use Rattle.zre_zmtp.proofs.Fronts.{in_traffic, not_greeting, last_after, last_item, frame_of, traffic_fine}

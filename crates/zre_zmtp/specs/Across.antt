@@ -1,5 +1,5 @@
 -- Pieces that hold octets of both frames of a message.
-use Rattle.std.specs.Prelude.{◌≡◌, ℕ, ◌+◌, ◌≤◌, ◌<◌, true, false, List, [], ◌∷◌, ◌++◌, length, Some}
+use Rattle.std.specs.Prelude.{◌≡◌, ℕ, ◌+◌, ◌≤◌, ◌<◌, true, false, List, [], ◌∷◌, ◌++◌, length, Some, None}
 use Rattle.zre_values.specs.declared.limits.TheConstants.{MESSAGE_OCTETS}
 use Rattle.zre_zmtp.specs.declared.across.Next.{Next}
 use Rattle.zre_zmtp.specs.declared.across.Next.TheVariants as next
@@ -8,7 +8,7 @@ use Rattle.zre_zmtp.specs.declared.bodies.Came.{Came}
 use Rattle.zre_zmtp.specs.declared.item.Item.{Item}
 use Rattle.zre_zmtp.specs.declared.expected.Expected.TheVariants as expect
 use Rattle.zre_zmtp.specs.declared.progress.Progress.{Progress}
-use Rattle.zre_zmtp.specs.Frame.{header_of, header_len, is_message, has_more}
+use Rattle.zre_zmtp.specs.Frame.{flags, header_of, header_len, is_message, has_more}
 use Rattle.zre_zmtp.specs.Lending.{given}
 use Rattle.zre_zmtp.specs.Shown.{before_of, left_of, Advances}
 use Rattle.zre_zmtp.specs.Stream.{Want, Before}
@@ -23,6 +23,7 @@ pub record IsSecond (size : ℕ) (s : Second) : Type 0 where
 -- What is told stands after the first frame of a message, whose body has so many octets.
 abbrev pub Follows : ℕ → Next → Type 0
 Follows size next.Nothing = Unit {0}
+Follows size (next.Head o) = (header_of o.now ≡ None) × (is_message (flags o.now) ≡ true)
 Follows size (next.Part s) = IsSecond size s × (length s.body.now < s.header.size)
 Follows size (next.Last s) =
     IsSecond size s × (length s.body.now ≡ s.header.size) × (has_more s.header.flags ≡ false)
@@ -30,6 +31,7 @@ Follows size (next.Last s) =
 -- its octets
 abbrev pub octets_of : Next → List ℕ
 octets_of next.Nothing = []
+octets_of (next.Head o) = o.now
 octets_of (next.Part s) = s.head.now ++ s.body.now
 octets_of (next.Last s) = s.head.now ++ s.body.now
 

@@ -15,6 +15,11 @@ abbrev pub Looks : {A E : Type 0} → ℕ → ℕ → ℕ → ℕ → ℕ → Re
 Looks looks looks' kept kept' n result =
     OnOk result (IsPaid looks looks' kept kept' n) × OnErr result (IsPaidOnRefusal looks looks' kept n)
 
+-- Each of n octets was looked at once at most, and that is paid.
+pub record LooksOnce {A E : Type 0} (looks looks' kept kept' n : ℕ) (result : Result A E) : Type 0 where
+  pub once : looks' ≤ looks + n
+  pub paid : Looks looks looks' kept kept' n result
+
 -- A ledger of this name and these parts, which is yet to be opened, as its blank says it: a count of looks begins with
 -- it.
 abbrev pub IsOpenTo : ℕ → ℕ → ℕ → ℕ → Type 0

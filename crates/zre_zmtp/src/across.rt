@@ -4,9 +4,9 @@ ghost use Rattle.std.specs.Prelude.{◌≡◌, ◌≢◌, ◌+◌, ◌≤◌, tr
 ghost use Rattle.zre_values.specs.declared.limits.TheConstants.{MESSAGE_OCTETS};
 ghost use Rattle.zre_zmtp.specs.Frame.{header_of, header_len as header_len_of};
 ghost use Rattle.zre_zmtp.specs.Frame.{is_message as message_test, has_more as more_test};
-ghost use Rattle.zre_zmtp.specs.Looks.{Looks, IsPaid};
+ghost use Rattle.zre_zmtp.specs.Looks.{IsPaid};
 ghost use Rattle.zre_zmtp.specs.Shown.{held, before_of, left_of};
-ghost use Rattle.zre_zmtp.specs.Lending.{TakesPiece};
+ghost use Rattle.zre_zmtp.specs.Lending.{TakesPiece, LooksIfTaken, IsBetweenFrames, IsInBody};
 ghost use Rattle.zre_zmtp.specs.Across.{Follows, octets_of, mid_of, Crosses};
 
 use crate::bodies::{Bodies, Came, LentBodies};
@@ -35,6 +35,8 @@ pub struct Second<'a> {
 pub enum Next<'a> {
     /// No octet.
     Nothing,
+    /// A part of a header.
+    Head(&'a [u8]),
     /// A frame whose body isn't whole.
     Part(Second<'a>),
     /// The last frame of the message, and nothing after it.
@@ -52,7 +54,13 @@ fn next_in(size: u64, octets: &[u8]) -> Option<Next<'_>>
     if octets.is_empty() {
         return Some(Next::Nothing);
     }
-    let header = read_header(octets)?;
+    let Some(header) = read_header(octets) else {
+        return if is_message(octets[0]) {
+            Some(Next::Head(octets))
+        } else {
+            None
+        };
+    };
     if !is_message(header.flags) || header.size > room {
         return None;
     }
@@ -117,9 +125,28 @@ impl Progress {
             (length front.now + length (octets_of next.entry))) }
     {
         let Second { header, head, body } = match next {
-            Next::Last(second) => return self.end_both(header_len, front, second, first, steps),
+            Next::Last(second) => {
+                let whole = self.partial.end(front, first, steps)?;
+                let Some(place) = end_of(self.place, header_len, whole.len()) else {
+                    return Err(OutOfMemory);
+                };
+                let Some(end) = end_of(place, second.head.len(), second.body.len()) else {
+                    return Err(OutOfMemory);
+                };
+                self.place = end;
+                self.start = end;
+                return Ok(Came::Message(LentBodies {
+                    first: whole,
+                    second: Some(second.body),
+                }));
+            }
             Next::Nothing => {
                 self.keep_first(header_len, front, first, steps)?;
+                return Ok(Came::Part);
+            }
+            Next::Head(head) => {
+                self.keep_first(header_len, front, first, steps)?;
+                self.partial.begin_head(head);
                 return Ok(Came::Part);
             }
             Next::Part(second) => second,
@@ -127,41 +154,6 @@ impl Progress {
         self.keep_first(header_len, front, first, steps)?;
         self.partial.begin(header, head, body, steps)?;
         Ok(Came::Part)
-    }
-
-    // The same where the last frame stands after it.
-    #[inline(always)]
-    fn end_both<'a, L: Ledger>(
-        &mut self,
-        header_len: usize,
-        front: &'a [u8],
-        second: Second<'a>,
-        first: &'a mut Octets,
-        steps: &mut Steps<L>,
-    ) -> Result<Came<'a>, OutOfMemory>
-        requires traffic { self.old.expected ≡ Expected.Traffic }
-        requires alone { self.old.opened ≡ [] }
-        requires follows { Follows (length self.old.partial.body + length front.now) (Next.Last second) }
-        ensures taken { IfOk result (λ came. Crosses came self.old self.new header_len
-            (self.old.partial.body ++ front.now) (second.entry.head.now ++ second.entry.body.now)) }
-        ensures some { result ≢ Ok Came.Other }
-        // Each octet is looked at once at most.
-        ensures once { steps.new ≤ steps.old + length front.now }
-        ensures none { OnOk result (held self.new ≡ 0) }
-    {
-        let body = self.partial.end(front, first, steps)?;
-        let Some(place) = end_of(self.place, header_len, body.len()) else {
-            return Err(OutOfMemory);
-        };
-        let Some(end) = end_of(place, second.head.len(), second.body.len()) else {
-            return Err(OutOfMemory);
-        };
-        self.place = end;
-        self.start = end;
-        Ok(Came::Message(LentBodies {
-            first: body,
-            second: Some(second.body),
-        }))
     }
 
     // A piece comes that holds all that the first frame of a message misses, where the header of that is known.
@@ -173,16 +165,12 @@ impl Progress {
         bodies: &'a mut Bodies,
         steps: &mut Steps<L>,
     ) -> Result<Came<'a>, OutOfMemory>
-        requires traffic { self.old.expected ≡ Expected.Traffic }
-        requires known { self.old.partial.header ≡ Some header }
+        requires in_body { IsInBody self.old header }
         requires message { message_test header.flags ≡ true }
         requires more { more_test header.flags ≡ true }
         requires all { header.size ≤ length self.old.partial.body + length piece.now }
         ensures taken { IfOk result (λ came. TakesPiece came self.old self.new piece.now) }
-        ensures other { result ≡ Ok Came.Other → steps.new ≡ steps.old }
-        // Each octet is looked at once at most.
-        ensures once { steps.new ≤ steps.old + length piece.now }
-        ensures looks { Looks steps.old steps.new (held self.old) (held self.new) (length piece.now) result }
+        ensures looks { LooksIfTaken steps.old steps.new (held self.old) (held self.new) (length piece.now) result }
     {
         if self.opened.len() > 0 {
             return Ok(Came::Other);
@@ -205,15 +193,11 @@ impl Progress {
         bodies: &'a mut Bodies,
         steps: &mut Steps<L>,
     ) -> Result<Came<'a>, OutOfMemory>
-        requires traffic { self.old.expected ≡ Expected.Traffic }
-        requires none { self.old.partial.head ≡ [] }
+        requires between { IsBetweenFrames self.old }
         requires header { header_of piece.now ≡ Some header }
         requires all { header_len_of piece.now + header.size ≤ length piece.now }
         ensures taken { IfOk result (λ came. TakesPiece came self.old self.new piece.now) }
-        ensures other { result ≡ Ok Came.Other → steps.new ≡ steps.old }
-        // Each octet is looked at once at most.
-        ensures once { steps.new ≤ steps.old + length piece.now }
-        ensures looks { Looks steps.old steps.new (held self.old) (held self.new) (length piece.now) result }
+        ensures looks { LooksIfTaken steps.old steps.new (held self.old) (held self.new) (length piece.now) result }
     {
         if self.opened.len() > 0 || !is_message(header.flags) || !has_more(header.flags) {
             return Ok(Came::Other);

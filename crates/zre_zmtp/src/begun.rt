@@ -4,7 +4,7 @@ ghost use Rattle.std.specs.Prelude.{◌≡◌, ◌+◌, ◌<◌, ◌≤◌, List
 ghost use Rattle.zre_zmtp.specs.Frame.{header_len as header_len_of};
 ghost use Rattle.zre_zmtp.specs.Stream.{Want};
 ghost use Rattle.zre_zmtp.specs.Shown.{before_of, left_of, held, Advances, RefusesAt, HasHeader};
-ghost use Rattle.zre_zmtp.specs.Looks.{Looks};
+ghost use Rattle.zre_zmtp.specs.Looks.{LooksOnce};
 ghost use Rattle.zre_zmtp.specs.declared.item.Item.{Item};
 
 use crate::expected::Expected;
@@ -44,8 +44,7 @@ pub fn begin_frame<L: Ledger>(
     ensures refused { (want : Want) (out : List Item) →
         IfErr result (λ e. RefusesAt e want (before_of progress.old) octets.now out out) }
     // How many octets are looked at.
-    ensures once { steps.new ≤ steps.old + length octets.now }
-    ensures looks { Looks steps.old steps.new (held progress.old) (held progress.new) (length octets.now) result }
+    ensures looks { LooksOnce steps.old steps.new (held progress.old) (held progress.new) (length octets.now) result }
 {
     let (head, later) = octets.split_at(header_len(octets));
     if let Some(why) = fault_of_header(progress, head) {

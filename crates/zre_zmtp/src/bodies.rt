@@ -1,5 +1,7 @@
 //! The bodies of a message that isn't copied into an item.
 
+ghost use Rattle.std.specs.Prelude.{◌≡◌, []};
+
 use std::alloc::Global;
 use zre_values::Octets;
 
@@ -13,8 +15,10 @@ pub struct Bodies {
 }
 
 impl Bodies {
-    /// It takes no memory yet.
-    pub fn new(alloc: Global) -> Self {
+    /// Both are empty, and take no memory yet.
+    pub fn new(alloc: Global) -> Self
+        ensures { (result.first ≡ []) × (result.last ≡ []) }
+    {
         Bodies {
             first: Octets::new(alloc),
             last: Octets::new(alloc),

@@ -4,7 +4,7 @@ ghost use Rattle.std.specs.Prelude.{◌≡◌, ◌+◌, ◌≤◌, [], ◌∷◌
 ghost use Rattle.zre_zmtp.specs.Stream.{Want as WantValue, item as item_of};
 ghost use Rattle.zre_zmtp.specs.Run.{after as after_of};
 ghost use Rattle.zre_zmtp.specs.Shown.{before_of, left_of, held, StandsAfter, NamesFault};
-ghost use Rattle.zre_zmtp.specs.Looks.{Looks};
+ghost use Rattle.zre_zmtp.specs.Looks.{LooksOnce};
 
 use crate::expected::Expected;
 use crate::fault::{FeedFault, ZmtpFault};
@@ -63,8 +63,7 @@ impl Progress {
         // What a refusal tells, and what it leaves.
         ensures refused { (want : WantValue) → NamesFault result want self.old (octet ∷ []) out.old out.new }
         // How many octets are looked at.
-        ensures once { steps.new ≤ steps.old + 1 }
-        ensures looks { Looks steps.old steps.new (held self.old) (held self.new) 1 result }
+        ensures looks { LooksOnce steps.old steps.new (held self.old) (held self.new) 1 result }
     {
         let i = self.greeting.len();
         if let Some(why) = fault_of_octet(i, octet) {

@@ -1,16 +1,15 @@
 //! Pieces that end a message or are a part of one: they are taken without an item.
 
-ghost use Rattle.std.specs.Prelude.{◌≡◌, ◌+◌, ◌≤◌, [], ◌∷◌, ◌++◌, length, Some, Ok, IfOk, IfSome, OnOk};
-ghost use Rattle.zre_zmtp.specs.Looks.{Looks};
+ghost use Rattle.std.specs.Prelude.{◌≡◌, ◌+◌, ◌≤◌, [], ◌∷◌, ◌++◌, length, IfOk, IfSome, OnOk};
 ghost use Rattle.zre_zmtp.specs.Shown.{held};
-ghost use Rattle.zre_zmtp.specs.Lending.{bodies_in, IsLast, EndsWith, Completes, TakesPiece};
+ghost use Rattle.zre_zmtp.specs.Lending.{bodies_in, IsLast, EndsWith, TakesPiece, LooksIfTaken};
+ghost use Rattle.zre_zmtp.specs.Lending.{IsBetweenFrames, IsInBody};
 
-use crate::begun::header_at;
 use crate::bodies::{Bodies, Came, LentBodies};
 use crate::expected::Expected;
 use crate::faults::fault_of_header;
 use crate::front::frame_at;
-use crate::header::{Header, has_more, header_len, is_message};
+use crate::header::{Header, has_more, header_len, is_message, read_header};
 use crate::looks::Steps;
 use crate::progress::Progress;
 use crate::turns::end_of;
@@ -67,43 +66,18 @@ impl Progress {
         })
     }
 
-    // A piece comes that is all of what the last frame of a message misses.
-    #[inline(always)]
-    fn complete<'a, L: Ledger>(
-        &mut self,
-        header: Header,
-        piece: &'a [u8],
-        bodies: &'a mut Bodies,
-        steps: &mut Steps<L>,
-    ) -> Result<LentBodies<'a>, OutOfMemory>
-        requires { Completes self.old header piece.now }
-        ensures taken { IfOk result (λ lent. TakesPiece (Came.Message lent) self.old self.new piece.now) }
-        // Each octet is looked at once at most.
-        ensures once { steps.new ≤ steps.old + length piece.now }
-        ensures looks { Looks steps.old steps.new (held self.old) (held self.new) (length piece.now) result }
-    {
-        let header_len = self.partial.head.len();
-        let Bodies { first, last } = bodies;
-        let body = self.partial.end(piece, last, steps)?;
-        Ok(self.end_lent(header_len, body, first)?)
-    }
-
     // A piece comes, where the header of the unfinished frame is known.
     #[inline(always)]
-    fn go_on<'a, L: Ledger>(
+    pub(crate) fn go_on<'a, L: Ledger>(
         &mut self,
         header: Header,
         piece: &'a [u8],
         bodies: &'a mut Bodies,
         steps: &mut Steps<L>,
     ) -> Result<Came<'a>, OutOfMemory>
-        requires traffic { self.old.expected ≡ Expected.Traffic }
-        requires known { self.old.partial.header ≡ Some header }
+        requires { IsInBody self.old header }
         ensures taken { IfOk result (λ came. TakesPiece came self.old self.new piece.now) }
-        ensures other { result ≡ Ok Came.Other → steps.new ≡ steps.old }
-        // Each octet is looked at once at most.
-        ensures once { steps.new ≤ steps.old + length piece.now }
-        ensures looks { Looks steps.old steps.new (held self.old) (held self.new) (length piece.now) result }
+        ensures looks { LooksIfTaken steps.old steps.new (held self.old) (held self.new) (length piece.now) result }
     {
         let missing = header.size - self.partial.body.len() as u64;
         let len = piece.len() as u64;
@@ -120,7 +94,10 @@ impl Progress {
         if len > missing || self.opened.len() > 1 {
             return Ok(Came::Other);
         }
-        let lent = self.complete(header, piece, bodies, steps)?;
+        let header_len = self.partial.head.len();
+        let Bodies { first, last } = bodies;
+        let body = self.partial.end(piece, last, steps)?;
+        let lent = self.end_lent(header_len, body, first)?;
         Ok(Came::Message(lent))
     }
 
@@ -144,21 +121,17 @@ impl Progress {
         bodies: &'a mut Bodies,
         steps: &mut Steps<L>,
     ) -> Result<Came<'a>, OutOfMemory>
-        requires traffic { self.old.expected ≡ Expected.Traffic }
-        requires none { self.old.partial.head ≡ [] }
+        requires { IsBetweenFrames self.old }
         ensures taken { IfOk result (λ came. TakesPiece came self.old self.new piece.now) }
-        ensures other { result ≡ Ok Came.Other → steps.new ≡ steps.old }
-        // Each octet is looked at once at most.
-        ensures once { steps.new ≤ steps.old + length piece.now }
-        ensures looks { Looks steps.old steps.new (held self.old) (held self.new) (length piece.now) result }
+        ensures looks { LooksIfTaken steps.old steps.new (held self.old) (held self.new) (length piece.now) result }
     {
         if let Some((_, body)) = self.last_frame(piece) {
             let header_len = piece.len() - body.len();
             let lent = self.end_lent(header_len, body, &mut bodies.first)?;
             return Ok(Came::Message(lent));
         }
-        let Some(header) = header_at(self, piece) else {
-            return Ok(Came::Other);
+        let Some(header) = read_header(piece) else {
+            return Ok(self.begin_head(piece));
         };
         let (head, later) = piece.split_at(header_len(piece));
         if header.size <= later.len() as u64 {
@@ -180,10 +153,7 @@ impl Progress {
         steps: &mut Steps<L>,
     ) -> Result<Came<'a>, OutOfMemory>
         ensures taken { IfOk result (λ came. TakesPiece came self.old self.new piece.now) }
-        ensures other { result ≡ Ok Came.Other → steps.new ≡ steps.old }
-        // Each octet is looked at once at most.
-        ensures once { steps.new ≤ steps.old + length piece.now }
-        ensures looks { Looks steps.old steps.new (held self.old) (held self.new) (length piece.now) result }
+        ensures looks { LooksIfTaken steps.old steps.new (held self.old) (held self.new) (length piece.now) result }
     {
         if self.expected != Expected::Traffic {
             return Ok(Came::Other);
@@ -191,7 +161,7 @@ impl Progress {
         match self.partial.header {
             Some(header) => self.go_on(header, piece, bodies, steps),
             None if self.partial.head.len() == 0 => self.begin(piece, bodies, steps),
-            None => Ok(Came::Other),
+            None => self.end_head(piece, bodies, steps),
         }
     }
 }

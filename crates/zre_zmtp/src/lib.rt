@@ -13,6 +13,7 @@ mod front;
 mod greeted;
 mod head;
 mod header;
+mod heads;
 mod item;
 mod laws;
 mod lending;

@@ -67,6 +67,17 @@ impl Partial {
         Ok(())
     }
 
+    /// A frame begins with a part of its header.
+    pub fn begin_head(&mut self, head: &[u8])
+        requires short { header_of head.now ≡ None }
+        requires within { length head.now ≤ header_len head.now }
+        requires none { self.old.head ≡ [] }
+        ensures head { self.new.head ≡ head.now }
+        ensures body { self.new.body ≡ [] }
+    {
+        self.head = Head::of(head);
+    }
+
     /// Octets more of the body, which isn't whole with them. The copy is a look at each.
     #[inline(always)]
     pub fn add<L: Ledger>(&mut self, octets: &[u8], steps: &mut Steps<L>) -> Result<(), OutOfMemory>

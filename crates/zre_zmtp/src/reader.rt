@@ -2,16 +2,16 @@
 
 ghost use Rattle.std.specs.Prelude.{◌≡◌, ℕ, ◌+◌, ◌-◌, ◌^◌, ◌<◌, ◌≤◌, ◌↔◌, min, false, List, [], length};
 ghost use Rattle.std.specs.Prelude.{IsErr, IsTrue, IfOk, IfSome};
-ghost use Rattle.std.specs.Prelude.{None, Ok};
+ghost use Rattle.std.specs.Prelude.{None};
 ghost use Rattle.std.specs.List.{concat};
 ghost use Rattle.zre_values.specs.declared.limits.TheConstants.{MESSAGE_OCTETS, COMMAND_OCTETS};
 ghost use Rattle.zre_zmtp.specs.Stream.{Want as WantValue, Any, Kind, Whole as whole_kind, Traffic as traffic_kind};
 ghost use Rattle.zre_zmtp.specs.Stream.{IsAtRest};
 ghost use Rattle.zre_zmtp.specs.Shown.{held, StandsAfter, NamesFault};
 ghost use Rattle.zre_zmtp.specs.Front.{PassesOn};
-ghost use Rattle.zre_zmtp.specs.Lending.{TakesOn};
+ghost use Rattle.zre_zmtp.specs.Lending.{TakesOn, LooksIfTaken};
 ghost use Rattle.zre_zmtp.specs.Reading.{Reads, ReadsOn, RefusesOn, kept};
-ghost use Rattle.zre_zmtp.specs.Looks.{Looks, IsOpenTo};
+ghost use Rattle.zre_zmtp.specs.Looks.{LooksOnce, IsOpenTo};
 
 use crate::bodies::{Bodies, Came, LentBodies};
 use crate::expected::Expected;
@@ -64,8 +64,7 @@ impl Progress {
     ) -> Result<(), FeedFault>
         ensures ok { StandsAfter result want.now self.old self.new octets.now out.old out.new }
         ensures refused { NamesFault result want.now self.old octets.now out.old out.new }
-        ensures once { steps.new ≤ steps.old + length octets.now }
-        ensures looks { Looks steps.old steps.new (held self.old) (held self.new) (length octets.now) result }
+        ensures looks { LooksOnce steps.old steps.new (held self.old) (held self.new) (length octets.now) result }
     {
         let mut rest = octets;
         while !rest.is_empty() {
@@ -159,8 +158,7 @@ impl Reader {
         ensures refused { RefusesOn result self.old piece.now out.old out.new }
         ensures spent { IsTrue self.new.spent ↔ IsErr result }
         // How many octets are looked at.
-        ensures once { steps.new ≤ steps.old + length piece.now }
-        ensures looks { Looks steps.old steps.new (kept self.old) (kept self.new) (length piece.now) result }
+        ensures looks { LooksOnce steps.old steps.new (kept self.old) (kept self.new) (length piece.now) result }
     {
         self.spent = true;
         self.progress.read(&self.want, piece, out, steps)?;
@@ -201,9 +199,7 @@ impl Reader {
         ensures taken { IfOk result (λ came. TakesOn came self.old self.new piece.now) }
         ensures spent { IsTrue self.new.spent ↔ IsErr result }
         // How many octets are looked at.
-        ensures other { result ≡ Ok Came.Other → steps.new ≡ steps.old }
-        ensures once { steps.new ≤ steps.old + length piece.now }
-        ensures looks { Looks steps.old steps.new (kept self.old) (kept self.new) (length piece.now) result }
+        ensures looks { LooksIfTaken steps.old steps.new (kept self.old) (kept self.new) (length piece.now) result }
     {
         if let Some(front) = self.pass_all(piece) {
             let Front { first, second, .. } = front;
@@ -298,8 +294,8 @@ impl Reader {
         ensures refused { RefusesOn result self.old (concat pieces.now) out.old out.new }
         ensures spent { IsTrue self.new.spent ↔ IsErr result }
         // How many octets are looked at.
-        ensures once { steps.new ≤ steps.old + length (concat pieces.now) }
-        ensures looks { Looks steps.old steps.new (kept self.old) (kept self.new) (length (concat pieces.now)) result }
+        ensures looks { LooksOnce steps.old steps.new (kept self.old) (kept self.new) (length (concat pieces.now))
+            result }
     {
         for piece in pieces.as_slice() {
             self.feed_counted(piece.as_slice(), out, steps)?;

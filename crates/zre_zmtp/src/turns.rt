@@ -11,7 +11,7 @@ ghost use Rattle.zre_zmtp.specs.Shown.{before_of, left_of, held, frame_item, fra
 ghost use Rattle.zre_zmtp.specs.Shown.{Advances, RefusesAt, BeginsFrame, is_content as is_content_of};
 ghost use Rattle.zre_zmtp.specs.Shown.{StandsAfter, NamesFault, room as room_of};
 ghost use Rattle.zre_zmtp.specs.Reading.{Refuses};
-ghost use Rattle.zre_zmtp.specs.Looks.{Looks, IsPaid, IsPaidOnRefusal};
+ghost use Rattle.zre_zmtp.specs.Looks.{LooksOnce, IsPaid, IsPaidOnRefusal};
 
 use crate::begun::{begin_frame, header_at};
 use crate::command::{command_fault, identity, name, socket_type};
@@ -30,12 +30,12 @@ use std::mem;
 use std::sync::ledger::Ledger;
 use zre_values::{Frames, Octets, OutOfMemory};
 
-// A whole frame: what its header says, the octets of that, and its body.
+// A frame whose header is whole: what that says, its octets, and what there is of the body.
 #[derive(Drop)]
-struct WholeFrame {
+struct HeadedFrame {
     header: Header,
     head: Head,
-    body: Octets,
+    body: Store,
 }
 
 fn copy(alloc: Global, octets: Option<&[u8]>) -> Result<Option<Octets>, OutOfMemory>
@@ -171,11 +171,12 @@ impl Progress {
         }
     }
 
-    // A whole frame, where nothing else is kept: the item that ends with it is appended.
+    // A frame whose header is whole, where nothing else is kept: it is kept until it is whole, and then the item that
+    // ends with it is appended.
     fn take_frame(
         &mut self,
         want: &Want,
-        frame: WholeFrame,
+        frame: HeadedFrame,
         out: &mut Items,
     ) -> Result<(), FeedFault>
         // What a caller knows.
@@ -184,7 +185,7 @@ impl Progress {
         requires no_body { self.old.partial.body ≡ [] }
         requires header { header_of frame.head ≡ Some frame.header }
         requires within { length frame.head ≤ header_len_of frame.head }
-        requires whole { length frame.body ≡ frame.header.size }
+        requires room { length frame.body ≤ frame.header.size }
         // What the octets add.
         ensures ok { header_fault (before_of self.old) frame.head ≡ None →
             OnOk result (Advances want.now (before_of self.old) (frame.head ++ frame.body) out.old out.new
@@ -194,10 +195,18 @@ impl Progress {
             IfErr result (λ e.
             RefusesAt e want.now (before_of self.old) (frame.head ++ frame.body) out.old out.new) }
         // How many octets are kept.
-        ensures kept { OnOk result (held self.new ≤ sum_by length self.old.opened + length frame.body) }
+        ensures kept { OnOk result (held self.new
+            ≤ sum_by length self.old.opened + (length frame.head + length frame.body)) }
+        ensures kept_whole { length frame.body ≡ frame.header.size →
+            OnOk result (held self.new ≤ sum_by length self.old.opened + length frame.body) }
     {
-        let WholeFrame { header, head, body } = frame;
-        if let Some(item) = self.finish_frame(want, header, head.len(), body)? {
+        let HeadedFrame { header, head, body } = frame;
+        if (body.len() as u64) < header.size {
+            let header = Some(header);
+            self.partial = Partial { head, header, body };
+            return Ok(());
+        }
+        if let Some(item) = self.finish_frame(want, header, head.len(), body.finish())? {
             out.push(item)?;
         }
         Ok(())
@@ -226,17 +235,7 @@ impl Progress {
             self.partial = Partial { head, header, body };
             return Ok(());
         };
-        if header.size > 0 {
-            let header = Some(header);
-            self.partial = Partial { head, header, body };
-            return Ok(());
-        }
-        let frame = WholeFrame {
-            header,
-            head,
-            body: body.finish(),
-        };
-        self.take_frame(want, frame, out)
+        self.take_frame(want, HeadedFrame { header, head, body }, out)
     }
 
     // One octet more of a header. A frame without a body ends with it.
@@ -279,8 +278,7 @@ impl Progress {
         // What a refusal tells, and what it leaves.
         ensures refused { NamesFault result want.now self.old octets.now out.old out.new }
         // How many octets are looked at.
-        ensures once { steps.new ≤ steps.old + length octets.now }
-        ensures looks { Looks steps.old steps.new (held self.old) (held self.new) (length octets.now) result }
+        ensures looks { LooksOnce steps.old steps.new (held self.old) (held self.new) (length octets.now) result }
     {
         let none = Partial::new(self.alloc);
         let Partial {
@@ -292,17 +290,7 @@ impl Progress {
             unreachable!();
         };
         body.add(octets, steps)?;
-        if (body.len() as u64) < header.size {
-            let header = Some(header);
-            self.partial = Partial { head, header, body };
-            return Ok(());
-        }
-        let frame = WholeFrame {
-            header,
-            head,
-            body: body.finish(),
-        };
-        self.take_frame(want, frame, out)
+        self.take_frame(want, HeadedFrame { header, head, body }, out)
     }
 
     // Whether a frame with this header belongs to a message after READY.
@@ -413,8 +401,10 @@ impl Progress {
             return Ok(len);
         }
         let head = Head::of(head);
-        let body = steps.copy(self.alloc, body)?;
-        self.take_frame(want, WholeFrame { header, head, body }, out)?;
+        let mut copied = Store::new(self.alloc);
+        copied.add(body, steps)?;
+        let body = copied;
+        self.take_frame(want, HeadedFrame { header, head, body }, out)?;
         Ok(len)
     }
 
@@ -435,8 +425,7 @@ impl Progress {
         // What a refusal tells, and what it leaves.
         ensures refused { NamesFault result want.now self.old octets.now out.old out.new }
         // How many octets are looked at.
-        ensures once { steps.new ≤ steps.old + length octets.now }
-        ensures looks { Looks steps.old steps.new (held self.old) (held self.new) (length octets.now) result }
+        ensures looks { LooksOnce steps.old steps.new (held self.old) (held self.new) (length octets.now) result }
     {
         match (self.expected, self.partial.header) {
             (Expected::Greeting, _) => self.take_greeting(octets[0], out, steps),

@@ -49,4 +49,7 @@ returns-clause-looks g c =
     let now = left-frame c.args.progress.now.expected c.args.progress.now.greeting c.of.result c.add.new.self c.requires.begun.frame
     ∙ ap (λ (x : List ℕ). x ++ c.add.new.self) c.of.ensures
     ∙ ap (λ (x : List ℕ). head ++ x) (c.in-Ok.ensures.ok ∙ ap (λ (x : List ℕ). x ++ later) c.new-body.ensures) in
-    (omega (arith, parts, ap length now, length-append head later, c.in-Ok.ensures.looks), tt)
+    record {
+      once = omega (arith, parts, c.in-Ok.ensures.looks);
+      paid = (omega (arith, parts, ap length now, length-append head later, c.in-Ok.ensures.looks), tt);
+    }

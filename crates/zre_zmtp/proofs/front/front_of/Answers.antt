@@ -1,4 +1,4 @@
-use Rattle.std.proofs.Common.{◌≤◌, ◌-◌, length, refl, sym, ◌∙◌, arith}
+use Rattle.std.proofs.Common.{◌≤◌, length, refl, sym, ◌∙◌, arith}
 use Rattle.zre_zmtp.proofs.Fronts.{one_front, two_front, shorter_by}
 use Rattle.zre_zmtp.proofs.front.front_of.Goals as goal
 

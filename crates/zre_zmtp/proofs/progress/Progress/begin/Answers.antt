@@ -1,4 +1,4 @@
-use Rattle.std.proofs.Common.{◌≡◌, ℕ, ◌+◌, ◌-◌, ◌<◌, ◌++◌, List, [], length, take, drop, None, refl, sym, ap, ◌∙◌, arith}
+use Rattle.std.proofs.Common.{◌≡◌, ℕ, ◌+◌, ◌-◌, ◌++◌, List, [], length, take, drop, None, refl, sym, ap, ◌∙◌, arith}
 use Rattle.std.proofs.lemmas.List.{length-append}
 use Rattle.zre_zmtp.specs.Frame.{header_len}
 use Rattle.zre_zmtp.specs.Stream.{Before}
@@ -25,11 +25,11 @@ pub returns-clause-taken : goal.returns-clause-taken
 returns-clause-taken g c =
     let p = c.args.self.now in
     let b = before_of p in
-    let h = c.in-Some-header_at.header in
+    let h = c.in-Some-read_header.header in
     let o = c.args.piece.now in
     let head = c.split_at.result.0.now in
     let later = c.split_at.result.1.now in
-    let at = head_of h o head later c.in-Some-header_at.ensures.header
+    let at = head_of h o head later (sym c.read_header.ensures ∙ c.in-Some-read_header.is)
     (c.split_at.ensures.front ∙ ap (λ n. take n o) c.header_len.ensures) (c.split_at.ensures.back ∙ ap (λ n. drop n o) c.header_len.ensures) in
     let is : IsHeader h head = is_header h head at.header at.within in
     let ok : header_fault b head ≡ None = sym c.fault_of_header.ensures ∙ c.in_default-fault_of_header.is in

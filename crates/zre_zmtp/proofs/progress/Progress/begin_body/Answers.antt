@@ -1,10 +1,10 @@
-use Rattle.std.proofs.Common.{◌≡◌, ◌≢◌, [], ◌++◌, List, ℕ, length, Some, None, refl, sym, ap, ◌∙◌, arith}
+use Rattle.std.proofs.Common.{◌≡◌, ◌≢◌, [], ◌++◌, List, ℕ, length, None, refl, sym, ap, ◌∙◌, arith}
 use Rattle.std.proofs.lemmas.List.{append-nil}
 use Rattle.zre_zmtp.specs.Frame.{header_of}
 use Rattle.zre_zmtp.specs.declared.progress.Progress.{Progress}
 use Rattle.zre_zmtp.specs.declared.expected.Expected.TheVariants as expect
 use Rattle.zre_zmtp.specs.Shown.{before_of, left_by}
-use Rattle.zre_zmtp.proofs.Framed.{left-frame, waits-no_header, waits-header}
+use Rattle.zre_zmtp.proofs.Framed.{left-frame, waits-no_header}
 use Rattle.zre_zmtp.proofs.LooksByTurn.{at_most}
 use Rattle.zre_zmtp.proofs.Turning.{turn_waits}
 use Rattle.zre_zmtp.proofs.progress.Progress.begin_body.Goals as goal
@@ -25,34 +25,19 @@ returns-in_default-clause-ok c =
     let now = begun c.args.self.now o c.new-body.result c.requires.frame c.new-body.ensures in
     turn_waits c.args.want.now b o c.args.out.now c.args.out.now b _ still.faultless still.partial refl refl now
 
-pub returns-then-header-gt0-clause-ok : goal.returns-then-header-gt0-clause-ok
-returns-then-header-gt0-clause-ok c =
-    let b = before_of c.args.self.now in
-    let o = c.args.head in
-    let said : header_of o ≡ Some c.in-Some.header = ap header_of (sym c.as_slice.ensures) ∙ sym c.read_header.ensures ∙ c.in-Some.is in
-    let still = waits-header c.args.want.now b o c.in-Some.header c.requires.frame c.requires.faultless said c.requires.within c.if-header-gt0.true in
-    let now = begun c.args.self.now o c.new-body.result c.requires.frame c.new-body.ensures in
-    turn_waits c.args.want.now b o c.args.out.now c.args.out.now b _ still.faultless still.partial refl refl now
-
 pub returns-clause-ok : goal.returns-clause-ok
 returns-clause-ok c =
-    rw (whole c.args.head c.args.head c.finish.result refl (c.finish.ensures ∙ c.new-body.ensures)) (c.take_frame.ensures.ok c.requires.faultless)
+    rw (whole c.args.head c.args.head c.new-body.result refl c.new-body.ensures) (c.take_frame.ensures.ok c.requires.faultless)
 
 pub returns-clause-refused : goal.returns-clause-refused
 returns-clause-refused c =
-    rw (whole c.args.head c.args.head c.finish.result refl (c.finish.ensures ∙ c.new-body.ensures)) (c.take_frame.ensures.refused c.requires.faultless)
+    rw (whole c.args.head c.args.head c.new-body.result refl c.new-body.ensures) (c.take_frame.ensures.refused c.requires.faultless)
 
 pub returns-clause-kept : goal.returns-clause-kept
-returns-clause-kept c = at_most c.take_frame.result _ _ _ (omega (arith, ap length (c.finish.ensures ∙ c.new-body.ensures))) c.take_frame.ensures.kept
+returns-clause-kept c = at_most c.take_frame.result _ _ _ (omega (arith, ap length c.new-body.ensures)) c.take_frame.ensures.kept
 
 pub returns-in_default-clause-kept : goal.returns-in_default-clause-kept
 returns-in_default-clause-kept c =
-    let o = c.args.head in
-    let now = begun c.args.self.now o c.new-body.result c.requires.frame c.new-body.ensures in
-    omega (arith, ap length now)
-
-pub returns-then-header-gt0-clause-kept : goal.returns-then-header-gt0-clause-kept
-returns-then-header-gt0-clause-kept c =
     let o = c.args.head in
     let now = begun c.args.self.now o c.new-body.result c.requires.frame c.new-body.ensures in
     omega (arith, ap length now)

@@ -17,5 +17,5 @@ returns-clause-taken g c =
     let at = head_of h o head later c.requires.header
     (c.split_at.ensures.front ∙ ap (λ n. take n o) c.header_len.ensures) (c.split_at.ensures.back ∙ ap (λ n. drop n o) c.header_len.ensures) in
     let parts : later ≡ front ++ rest = joined h.size later front c.split_at-2.ensures.front ∙ ap (λ (x : List ℕ). front ++ x) (sym c.split_at-2.ensures.back ∙ c.in-Some.ensures.all) in
-    begins_past_on c.cross.result p c.cross.new.self h (p.partial.body ++ front) head later front rest o (length head) c.requires.traffic (none_of p.opened (omega (arith, c.if-len-gt0.false, c.len.ensures))) c.requires.none at
+    begins_past_on c.cross.result p c.cross.new.self h (p.partial.body ++ front) head later front rest o (length head) c.requires.between.traffic (none_of p.opened (omega (arith, c.if-len-gt0.false, c.len.ensures))) c.requires.between.none at
     (sym c.is_message.ensures ∙ c.if-not-is_message.false) (sym c.has_more.ensures ∙ c.if-not-has_more.false) c.in-Some.ensures.room refl c.split_at-2.ensures.front_len refl parts c.cross.ensures.some c.cross.ensures.taken

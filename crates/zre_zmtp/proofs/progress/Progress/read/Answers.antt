@@ -39,9 +39,15 @@ returns-clause-ok g c =
 pub returns-clause-looks : goal.returns-clause-looks
 returns-clause-looks g c =
     let none : length c.loop-rest.rest.now ≤ 0 = omega (arith, eqb-true _ _ (sym c.loop-rest-test.ensures)) in
-    (omega (arith, none, c.loop-rest.invariant.2), tt)
+    record {
+      once = omega (arith, none, c.loop-rest.invariant.1);
+      paid = (omega (arith, none, c.loop-rest.invariant.2), tt);
+    }
 
 pub returns-in_err-len-clause-looks : goal.returns-in_err-len-clause-looks
 returns-in_err-len-clause-looks g c =
     let p = err_from_is_err_and c.from_residual.result c.from_residual.ensures.1 in
-    rw p.1 (tt, omega (arith, c.in_err-len.ensures.refused_looks, c.loop-rest.invariant.2))
+    rw p.1 (record {
+      once = omega (arith, c.in_err-len.ensures.refused_once, c.loop-rest.invariant.1);
+      paid = (tt, omega (arith, c.in_err-len.ensures.refused_looks, c.loop-rest.invariant.2));
+    })

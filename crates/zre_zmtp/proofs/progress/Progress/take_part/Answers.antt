@@ -19,8 +19,10 @@ returns-in_default-None g c =
     record {
       ok = λ w. rw one (c.take_header.ensures.ok w);
       refused = λ w. rw one (c.take_header.ensures.refused w);
-      once = omega arith;
-      looks = paid c.take_header.result _ _ _ _ _ _ (omega (arith, ap length one)) c.take_header.ensures.kept;
+      looks = record {
+        once = omega arith;
+        paid = paid c.take_header.result _ _ _ _ _ _ (omega (arith, ap length one)) c.take_header.ensures.kept;
+      };
     }
 
 pub returns-in-Greeting-default-clause-looks : goal.returns-in-Greeting-default-clause-looks

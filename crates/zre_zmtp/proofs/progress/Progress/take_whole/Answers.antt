@@ -23,6 +23,10 @@ front_of o head body rest is =
     ∙ take-append-le (length (head ++ body)) (head ++ body) rest (omega arith)
     ∙ take_all (length (head ++ body)) (head ++ body) (omega arith)
 
+-- what was copied to where nothing was
+copied : (all none body : List ℕ) → all ≡ none ++ body → none ≡ [] → all ≡ body
+copied all none body is nothing = is ∙ ap (λ (x : List ℕ). x ++ body) nothing
+
 pub returns-in-Some-clause-refused : goal.returns-in-Some-clause-refused
 returns-in-Some-clause-refused g c =
     let b = before_of c.args.self.now in
@@ -44,9 +48,9 @@ returns-in_err-take_frame-clause-refused g c =
     let at = head_of c.args.header o head c.split_at.result.1.now c.requires.header
     (c.of-head.ensures ∙ c.split_at.ensures.front ∙ ap (λ n. take n o) c.header_len.ensures) (c.split_at.ensures.back ∙ ap (λ n. drop n o) c.header_len.ensures) in
     let fine : header_fault b head ≡ None = ap (λ (x : List ℕ). header_fault b x) c.of-head.ensures ∙ sym c.fault_of_header.ensures ∙ c.in_default.is in
-    let whole = parted o head c.split_at.result.1.now c.in_ok-body.body _ at.whole
-    (joined _ c.split_at.result.1.now c.in_ok-body.body (c.in_ok-body.ensures.copied ∙ c.split_at-2.ensures.front)) in
-    rw (p.1, p.2) (refused_turn c.args.want.now out out c.take_frame.new.out (run_all c.args.want.now b o) b [] (head ++ c.in_ok-body.body) _ o c.in_err-take_frame.field-0.0 whole
+    let whole = parted o head c.split_at.result.1.now c.add.new.self _ at.whole
+    (joined _ c.split_at.result.1.now c.add.new.self (copied c.add.new.self c.new-copied.result c.split_at-2.result.0.now c.in_ok-add.ensures.ok c.new-copied.ensures ∙ c.split_at-2.ensures.front)) in
+    rw (p.1, p.2) (refused_turn c.args.want.now out out c.take_frame.new.out (run_all c.args.want.now b o) b [] (head ++ c.add.new.self) _ o c.in_err-take_frame.field-0.0 whole
     (begins c.args.want.now b [] o out (waits_from c.args.want.now b [] (no_part c.args.want.now b) (no_octets c.args.want.now b.expected b))) (c.in_err-take_frame.ensures.refused fine))
 
 pub returns-clause-ok : goal.returns-clause-ok
@@ -57,12 +61,12 @@ returns-clause-ok g c =
     let at = head_of c.args.header o head c.split_at.result.1.now c.requires.header
     (c.of-head.ensures ∙ c.split_at.ensures.front ∙ ap (λ n. take n o) c.header_len.ensures) (c.split_at.ensures.back ∙ ap (λ n. drop n o) c.header_len.ensures) in
     let fine : header_fault b head ≡ None = ap (λ (x : List ℕ). header_fault b x) c.of-head.ensures ∙ sym c.fault_of_header.ensures ∙ c.in_default.is in
-    let same : c.in_ok-body.body ≡ c.split_at-2.result.0.now = c.in_ok-body.ensures.copied in
-    let whole = parted o head c.split_at.result.1.now c.in_ok-body.body _ at.whole
-    (joined _ c.split_at.result.1.now c.in_ok-body.body (same ∙ c.split_at-2.ensures.front)) in
-    let front : take (length c.split_at.result.0.now + length c.split_at-2.result.0.now) o ≡ head ++ c.in_ok-body.body =
+    let same = copied c.add.new.self c.new-copied.result c.split_at-2.result.0.now c.in_ok-add.ensures.ok c.new-copied.ensures in
+    let whole = parted o head c.split_at.result.1.now c.add.new.self _ at.whole
+    (joined _ c.split_at.result.1.now c.add.new.self (same ∙ c.split_at-2.ensures.front)) in
+    let front : take (length c.split_at.result.0.now + length c.split_at-2.result.0.now) o ≡ head ++ c.add.new.self =
     ap (λ (x : List ℕ). take (length x + length c.split_at-2.result.0.now) o) (sym c.of-head.ensures)
-    ∙ ap (λ (x : List ℕ). take (length head + length x) o) (sym same) ∙ front_of o head c.in_ok-body.body _ whole in
+    ∙ ap (λ (x : List ℕ). take (length head + length x) o) (sym same) ∙ front_of o head c.add.new.self _ whole in
     rw front (c.in_ok-take_frame.ensures.ok fine)
 
 pub returns-then-is_content-clause-ok : goal.returns-then-is_content-clause-ok
@@ -97,3 +101,9 @@ returns-then-is_content-clause-kept g c =
     let kept = frame_kept b c.args.header body _ (before_of now) (left_of now) e.after
     (left-nothing now.expected now.greeting now.partial.head now.partial.body (ap (λ (x : Before). x.expected) e.after) none none') in
     omega (arith, kept, c.split_at-2.ensures.front_len)
+
+pub returns-clause-kept : goal.returns-clause-kept
+returns-clause-kept g c =
+    let same = copied c.add.new.self c.new-copied.result c.split_at-2.result.0.now c.in_ok-add.ensures.ok c.new-copied.ensures in
+    let sized : length c.add.new.self ≡ c.args.header.size = ap length same ∙ c.split_at-2.ensures.front_len in
+    omega (arith, c.in_ok-take_frame.ensures.kept_whole sized, sized)

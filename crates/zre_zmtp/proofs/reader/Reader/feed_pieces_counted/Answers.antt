@@ -29,8 +29,8 @@ loop-piece-preserved g c =
       λ want kind o h. (let so_far = c.loop-piece.invariant.1 want kind o h in
           read_one_more want kind o c.args.pieces.now c.loop-piece.piece-index c.as_slice.result.now c.loop-piece.self c.feed_counted.new.self c.args.out.now c.loop-piece.out c.feed_counted.new.out lt is so_far
           (c.in_ok-feed_counted.ensures.ok want kind _ so_far.reads)),
-      omega (arith, length-take-more c.args.pieces.now c.as_slice.result.now c.loop-piece.piece-index lt is, c.loop-piece.invariant.2, c.in_ok-feed_counted.ensures.once),
-      omega (arith, length-take-more c.args.pieces.now c.as_slice.result.now c.loop-piece.piece-index lt is, c.loop-piece.invariant.3, c.in_ok-feed_counted.ensures.looks.0),
+      omega (arith, length-take-more c.args.pieces.now c.as_slice.result.now c.loop-piece.piece-index lt is, c.loop-piece.invariant.2, c.in_ok-feed_counted.ensures.looks.once),
+      omega (arith, length-take-more c.args.pieces.now c.as_slice.result.now c.loop-piece.piece-index lt is, c.loop-piece.invariant.3, c.in_ok-feed_counted.ensures.looks.paid.0),
     )
 
 pub returns-in_err-feed_counted-clause-looks : goal.returns-in_err-feed_counted-clause-looks
@@ -38,10 +38,8 @@ returns-in_err-feed_counted-clause-looks g c =
     let p = err_from_is_err_and c.from_residual.result c.from_residual.ensures.1 in
     let lt : c.loop-piece.piece-index < length c.args.pieces.now = subst (λ (l : List (List ℕ)). c.loop-piece.piece-index < length l) c.as_slice-piece-items.ensures c.loop-piece-test.true in
     let is = at_place c.args.pieces.now c.as_slice-piece-items.result.now c.loop-piece.piece-index c.piece-item.result c.as_slice.result.now c.as_slice-piece-items.ensures c.piece-item.is c.as_slice.ensures in
-    rw p.1 (tt, omega (arith, length-within c.args.pieces.now c.as_slice.result.now c.loop-piece.piece-index lt is, c.loop-piece.invariant.3, c.in_err-feed_counted.ensures.looks.1))
-
-pub returns-in_err-feed_counted-clause-once : goal.returns-in_err-feed_counted-clause-once
-returns-in_err-feed_counted-clause-once g c =
-    let lt : c.loop-piece.piece-index < length c.args.pieces.now = subst (λ (l : List (List ℕ)). c.loop-piece.piece-index < length l) c.as_slice-piece-items.ensures c.loop-piece-test.true in
-    let is = at_place c.args.pieces.now c.as_slice-piece-items.result.now c.loop-piece.piece-index c.piece-item.result c.as_slice.result.now c.as_slice-piece-items.ensures c.piece-item.is c.as_slice.ensures in
-    omega (arith, length-within c.args.pieces.now c.as_slice.result.now c.loop-piece.piece-index lt is, c.loop-piece.invariant.2, c.in_err-feed_counted.ensures.once)
+    let within = length-within c.args.pieces.now c.as_slice.result.now c.loop-piece.piece-index lt is in
+    rw p.1 (record {
+      once = omega (arith, within, c.loop-piece.invariant.2, c.in_err-feed_counted.ensures.looks.once);
+      paid = (tt, omega (arith, within, c.loop-piece.invariant.3, c.in_err-feed_counted.ensures.looks.paid.1));
+    })

@@ -1,4 +1,4 @@
-use Rattle.std.proofs.Common.{◌≡◌, ℕ, false, Bool, List, refl, sym, ap, ◌∙◌}
+use Rattle.std.proofs.Common.{◌≡◌, false, refl, sym, ap, ◌∙◌}
 use Rattle.zre_zmtp.specs.Reading.{Reading}
 use Rattle.zre_zmtp.specs.Shown.{before_of, left_of}
 use Rattle.zre_zmtp.proofs.Lendings.{passes_all, taken_on}
