@@ -28,7 +28,7 @@ pub struct LentMessage<'a> {
 }
 
 // A copy of one frame, as a list.
-#[inline]
+#[inline(always)]
 fn copy_frame(alloc: Global, frame: &[u8]) -> Result<Frames, OutOfMemory>
     ensures { IfOk result (λ frames. frames ≡ frame.now ∷ []) }
 {
@@ -58,6 +58,7 @@ impl<'a> LentContent<'a> {
     }
 
     /// Copies of them.
+    #[inline(always)]
     pub fn copy(&self, alloc: Global) -> Result<Frames, OutOfMemory>
         ensures { IfOk result (λ frames. frames ≡ content_of self.now) }
     {

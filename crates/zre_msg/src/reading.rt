@@ -163,6 +163,7 @@ fn read_parts(alloc: Global, first: &[u8], further: Further<'_>) -> Result<Messa
 }
 
 // The message that lies in a first frame and those after it.
+#[inline(always)]
 fn see_parts<'a>(
     first: &'a [u8],
     content: LentContent<'a>,

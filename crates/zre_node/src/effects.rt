@@ -48,13 +48,14 @@ pub struct Effects {
     pub pushed: Keys,
 }
 
-// Puts a list in place of another, whose memory it takes. Most lists are empty, and then nothing moves.
+// Puts a list in place of another, whose memory it takes, and leaves its own empty. Most lists are empty, and then
+// nothing moves.
 #[inline(always)]
 fn hand<T: Drop>(from: &mut List<T>, to: &mut List<T>)
     ensures { to.new ≡ from.old }
 {
-    if from.len() != 0 || to.len() != 0 {
-        to.clear();
+    to.clear();
+    if from.len() != 0 {
         mem::swap(from, to);
     }
 }

@@ -1,5 +1,6 @@
 -- A run that has taken messages, and one more.
-use Rattle.std.proofs.Common.{◌≡◌, ◌≢◌, ℕ, ◌+◌, ◌%◌, Bool, true, false, cond, eqb, ◌&&◌, List, [], ◌∷◌, ◌++◌, length, Some, refl, sym, ap, ◌∙◌, arith}
+use Rattle.std.specs.Prelude.{OnOk, IfErr}
+use Rattle.std.proofs.Common.{Result, Ok, Err, ◌≡◌, ◌≢◌, ℕ, ◌+◌, ◌%◌, Bool, true, false, cond, eqb, ◌&&◌, List, [], ◌∷◌, ◌++◌, length, Some, refl, sym, ap, ◌∙◌, arith}
 use Rattle.std.proofs.lemmas.List.Sums.{fold_push}
 use Rattle.std.proofs.lemmas.Bool.{and_parts, and_from}
 use Rattle.std.proofs.lemmas.List.{append-nil, append_assoc, length_push}
@@ -101,3 +102,17 @@ later_never number m = by (is_hello m.body) (eqb m.sequence number)
     by true n e = absurd cc
     by false true e = absurd cc
     by false false e = absurd cc
+
+-- what follows from two things that hold of an answer that was passed on
+pub on_both : {E A B C : Type 0} (r q : Result (Unit {0}) E) → r ≡ q → OnOk q A → OnOk q B → (A → B → C) → OnOk r C
+on_both r (Ok x) is a b f = rw is (f a b)
+on_both r (Err e) is a b f = rw is tt
+
+pub on_all : {E A B C D : Type 0} (r q : Result (Unit {0}) E) → r ≡ q → OnOk q A → OnOk q B → OnOk q C → (A → B → C → D) → OnOk r D
+on_all r (Ok x) is a b c f = rw is (f a b c)
+on_all r (Err e) is a b c f = rw is tt
+
+-- and of its fault
+pub if_passed : {E : Type 0} {P R : E → Type 0} (r q : Result (Unit {0}) E) → r ≡ q → IfErr q P → ((e : E) → P e → R e) → IfErr r R
+if_passed r (Ok x) is p f = rw is tt
+if_passed r (Err e) is p f = rw is (f e p)

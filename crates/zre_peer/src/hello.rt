@@ -19,15 +19,6 @@ use std::mem;
 use zre_msg::Body;
 use zre_values::{Frames, Octets, OutOfMemory, Pairs, PeerId};
 
-pub(crate) fn is_hello(body: &Body) -> bool
-    ensures { result ≡ is_hello body.now }
-{
-    match body {
-        Body::Hello { .. } => true,
-        _ => false,
-    }
-}
-
 // The groups that a HELLO names, each once. With the first that passes a limit the rest isn't looked at.
 fn distinct_of(alloc: Global, groups: &Frames) -> Result<Groups, RunFault>
     ensures ok { IfOk result (λ found. (found ≡ distinct groups.now) × (are_few (distinct groups.now) ≡ true)) }
@@ -93,7 +84,8 @@ pub(crate) fn opened(alloc: Global, body: &mut Body) -> Result<View, RunFault>
     })
 }
 
-fn push_join(
+/// Appends the event of a group that a peer joins.
+pub(crate) fn push_join(
     alloc: Global,
     events: &mut Events,
     id: PeerId,

@@ -6,13 +6,14 @@ ghost use Rattle.zre_msg.specs.Lent.{message_of};
 ghost use Rattle.zre_peer.specs.declared.peer_run.RunFault.TheVariants as faults;
 ghost use Rattle.zre_peer.specs.Changes.{TellsLines};
 ghost use Rattle.zre_peer.specs.Ledger.{KeepsItsList};
-ghost use Rattle.zre_peer.specs.Later.{goes_on, later_fault, RefusesLater};
+ghost use Rattle.zre_peer.specs.Later.{goes_on, RefusesLater};
 ghost use Rattle.zre_peer.specs.Runs.{events_of, may_follow, fault_of, in_order, is_hello};
 ghost use Rattle.zre_peer.specs.Views.{after, blank, is_small, view_of};
 
 use crate::event::Events;
 use crate::heads::Heads;
-use crate::hello::{is_hello, opened, tell_hello};
+use crate::hello::{opened, tell_hello};
+use crate::lending::lent;
 use crate::view::View;
 use std::alloc::Global;
 use thiserror::Error;
@@ -110,45 +111,11 @@ fn expect_number(due: u16, got: u16) -> Result<(), RunFault>
     Ok(())
 }
 
-// Whether a message after the first may come, but for what it does to the view.
-fn expect(due: u16, message: &Message) -> Result<(), RunFault>
-    ensures ok { OnOk result ((is_hello message.now.body ≡ false) × (message.now.sequence ≡ due)) }
-    ensures refused { IfErr result (λ e. ((view : View) → goes_on view due message.now ≡ false)
-        × (e ≡ later_fault due message.now)) }
-{
-    if is_hello(&message.body) {
-        return Err(RunFault::SecondHello);
-    }
-    expect_number(due, message.sequence)
-}
-
 impl View {
-    // A message after the first.
-    fn later(
-        &mut self,
-        alloc: Global,
-        id: PeerId,
-        due: u16,
-        message: &mut Message,
-        events: &mut Events,
-    ) -> Result<(), RunFault>
-        // The view is within its limits.
-        requires { is_small self.old ≡ true }
-        // It is the next one: the view and the events after it.
-        ensures ok { OnOk result ((goes_on self.old due message.old ≡ true)
-            × (self.new ≡ after self.old message.old.body)
-            × (events.new ≡ events.old ++ events_of id self.old message.old.body)) }
-        // It isn't: nothing changes, and why.
-        ensures kept { OnErr result (self.new ≡ self.old) }
-        ensures refused { RefusesLater result self.old due message.old events.old events.new }
-    {
-        expect(due, message)?;
-        self.change(alloc, id, &mut message.body, events)
-    }
-
     // A message after HELLO that lies in its frames: it is counted and changes the view, or is refused.
+    #[inline(always)]
     #[tactic(auto, using(crate::proofs::Named::lent_is_later))]
-    fn later_lent(
+    fn later(
         &mut self,
         alloc: Global,
         id: PeerId,
@@ -162,12 +129,14 @@ impl View {
         ensures ok { OnOk result ((goes_on self.old due (message_of lent.now) ≡ true)
             × (self.new ≡ after self.old (message_of lent.now).body)
             × (events.new ≡ events.old ++ events_of id self.old (message_of lent.now).body)) }
+        // What holds of the view in any case.
+        ensures small { is_small self.new ≡ true }
         // It isn't: nothing changes, and why.
         ensures kept { OnErr result (self.new ≡ self.old) }
         ensures refused { RefusesLater result self.old due (message_of lent.now) events.old events.new }
     {
         expect_number(due, lent.sequence)?;
-        self.change_by_lent(alloc, id, lent, events)
+        self.change(alloc, id, lent, events)
     }
 
     // A message after HELLO that lies in its frames, with the lines of its events, which begin with `heads`.
@@ -199,7 +168,8 @@ impl View {
 }
 
 impl Run {
-    ghost use Rattle.zre_peer.specs.Standing.{Stands, Tells, RefusesToTell, IsReady, id_of, view_in, is_spent};
+    ghost use Rattle.zre_peer.specs.Standing.{Stands, Takes, RefusesToTake, Tells, RefusesToTell, IsReady};
+    ghost use Rattle.zre_peer.specs.Standing.{id_of, view_in, is_spent};
     ghost use Rattle.std.specs.Prelude.{option_copied};
 
     /// The run of a peer of which no message was taken yet. It takes no memory.
@@ -244,6 +214,23 @@ impl Run {
         self.count.wrapping_add(1)
     }
 
+    // What is kept of an answer: a message that was taken is counted, with this number, and after a refusal no further
+    // one is taken. Lack of memory changes nothing.
+    #[inline(always)]
+    fn settle(&mut self, number: u16, answer: Result<(), RunFault>) -> Result<(), RunFault>
+        requires { is_spent self.old ≡ false }
+        ensures same { result ≡ answer }
+        ensures ok { OnOk answer (self.new ≡ record self.old { count = number }) }
+        ensures refused { IfErr answer (λ e. e ≢ RunFault.OutOfMemory → self.new ≡ record self.old { spent = true }) }
+        ensures unchanged { answer ≡ Err RunFault.OutOfMemory → self.new ≡ self.old }
+    {
+        match answer {
+            Ok(()) => self.count = number,
+            Err(fault) => self.spent = fault != RunFault::OutOfMemory,
+        }
+        answer
+    }
+
     /// Takes the next message, and gives its events.
     pub fn next(&mut self, message: Message) -> Result<Events, RunFault>
         requires { is_spent self.old ≡ false }
@@ -273,14 +260,10 @@ impl Run {
         // It is the next one: its events, and the view of a HELLO.
         ensures first { view_in self.old ≡ None → OnOk result (
             (is_hello message.body ≡ true) × (view_in self.new ≡ Some (after blank message.body))) }
-        ensures ok { (ms : List Message) → Stands self.old ms → OnOk result (
-            (may_follow ms message ≡ true) × Stands self.new (ms ++ message ∷ [])
-            × (events.new ≡ events.old ++ events_of (id_of self.old) (view_of ms) message.body)) }
+        ensures ok { Takes result self.old self.new message events.old events.new }
         ensures going { OnOk result (is_spent self.new ≡ false) }
         // It isn't: the fault, and no further message is taken.
-        ensures refused { (ms : List Message) → Stands self.old ms → IfErr result (λ e. e ≢ RunFault.OutOfMemory →
-            (may_follow ms message ≡ false) × (in_order (ms ++ message ∷ []) ≡ false) × (e ≡ fault_of ms message)
-            × (events.new ≡ events.old)) }
+        ensures refused { RefusesToTake result self.old message events.old events.new }
         ensures spent { IfErr result (λ e. e ≢ RunFault.OutOfMemory → is_spent self.new ≡ true) }
         // What stays as it was.
         ensures unchanged { result ≡ Err RunFault.OutOfMemory → self.new ≡ self.old }
@@ -292,7 +275,7 @@ impl Run {
         taken
     }
 
-    /// Takes the next message as `take` does; what the message holds is taken out of it.
+    /// Takes the next message as `take` does; what a HELLO holds is taken out of it.
     pub(crate) fn take_from(
         &mut self,
         message: &mut Message,
@@ -302,43 +285,29 @@ impl Run {
         // It is the next one: its events, and the view of a HELLO.
         ensures first { view_in self.old ≡ None → OnOk result (
             (is_hello message.old.body ≡ true) × (view_in self.new ≡ Some (after blank message.old.body))) }
-        ensures ok { (ms : List Message) → Stands self.old ms → OnOk result (
-            (may_follow ms message.old ≡ true) × Stands self.new (ms ++ message.old ∷ [])
-            × (events.new ≡ events.old ++ events_of (id_of self.old) (view_of ms) message.old.body)) }
+        ensures ok { Takes result self.old self.new message.old events.old events.new }
         ensures going { OnOk result (is_spent self.new ≡ false) }
         // It isn't: the fault, and no further message is taken.
-        ensures refused { (ms : List Message) → Stands self.old ms → IfErr result (λ e. e ≢ RunFault.OutOfMemory →
-            (may_follow ms message.old ≡ false) × (in_order (ms ++ message.old ∷ []) ≡ false)
-            × (e ≡ fault_of ms message.old) × (events.new ≡ events.old)) }
+        ensures refused { RefusesToTake result self.old message.old events.old events.new }
         ensures spent { IfErr result (λ e. e ≢ RunFault.OutOfMemory → is_spent self.new ≡ true) }
         // What stays as it was.
         ensures unchanged { result ≡ Err RunFault.OutOfMemory → self.new ≡ self.old }
         ensures kept { OnErr result (view_in self.new ≡ view_in self.old) }
         ensures id { id_of self.new ≡ id_of self.old }
     {
+        if self.view.is_some() {
+            return match lent(message) {
+                Some(lent) => self.take_lent(&lent, events),
+                None => Err(self.refuse_hello()),
+            };
+        }
         let next = self.due();
-        match &mut self.view {
-            None => match first(self.alloc, self.id, message, events) {
-                Ok(view) => {
-                    self.view = Some(view);
-                    self.count = next;
-                    Ok(())
-                }
-                Err(fault) => {
-                    self.spent = fault != RunFault::OutOfMemory;
-                    Err(fault)
-                }
-            },
-            Some(view) => match view.later(self.alloc, self.id, next, message, events) {
-                Ok(()) => {
-                    self.count = next;
-                    Ok(())
-                }
-                Err(fault) => {
-                    self.spent = fault != RunFault::OutOfMemory;
-                    Err(fault)
-                }
-            },
+        match first(self.alloc, self.id, message, events) {
+            Ok(view) => {
+                self.view = Some(view);
+                self.settle(next, Ok(()))
+            }
+            Err(fault) => self.settle(next, Err(fault)),
         }
     }
 
@@ -347,14 +316,10 @@ impl Run {
         requires going { is_spent self.old ≡ false }
         requires later { is_some (view_in self.old) ≡ true }
         // It is the next one: its events.
-        ensures ok { (ms : List Message) → Stands self.old ms → OnOk result (
-            (may_follow ms (message_of lent.now) ≡ true) × Stands self.new (ms ++ (message_of lent.now) ∷ [])
-            × (events.new ≡ events.old ++ events_of (id_of self.old) (view_of ms) (message_of lent.now).body)) }
+        ensures ok { Takes result self.old self.new (message_of lent.now) events.old events.new }
         ensures going { OnOk result (is_spent self.new ≡ false) }
         // It isn't: the fault, which isn't that of a first message, and no further message is taken.
-        ensures refused { (ms : List Message) → Stands self.old ms → IfErr result (λ e. e ≢ RunFault.OutOfMemory →
-            (may_follow ms (message_of lent.now) ≡ false) × (in_order (ms ++ (message_of lent.now) ∷ []) ≡ false)
-            × (e ≡ fault_of ms (message_of lent.now)) × (events.new ≡ events.old)) }
+        ensures refused { RefusesToTake result self.old (message_of lent.now) events.old events.new }
         ensures never { IfErr result (λ e. e ≢ RunFault.NotHello) }
         ensures spent { IfErr result (λ e. e ≢ RunFault.OutOfMemory → is_spent self.new ≡ true) }
         // What stays as it was.
@@ -366,16 +331,8 @@ impl Run {
         let Some(view) = &mut self.view else {
             unreachable!();
         };
-        match view.later_lent(self.alloc, self.id, next, lent, events) {
-            Ok(()) => {
-                self.count = next;
-                Ok(())
-            }
-            Err(fault) => {
-                self.spent = fault != RunFault::OutOfMemory;
-                Err(fault)
-            }
-        }
+        let taken = view.later(self.alloc, self.id, next, lent, events);
+        self.settle(next, taken)
     }
 
     /// Takes a message after HELLO that lies in its frames, and appends the lines of its events to a text; they begin
@@ -405,17 +362,10 @@ impl Run {
         let Some(view) = &mut self.view else {
             unreachable!();
         };
-        match view.tell_later(self.alloc, next, lent, heads, out) {
-            Ok(()) => {
-                self.count = next;
-                Ok(())
-            }
-            Err(fault) => {
-                self.spent = fault != RunFault::OutOfMemory;
-                Err(fault)
-            }
-        }
+        let taken = view.tell_later(self.alloc, next, lent, heads, out);
+        self.settle(next, taken)
     }
+
     /// Refuses a HELLO after the first.
     pub(crate) fn refuse_hello(&mut self) -> RunFault
         // HELLO was taken.

@@ -1,6 +1,6 @@
 //! A run whose events are wanted as lines.
 
-ghost use Rattle.std.specs.Prelude.{◌≡◌, [], true, false, is_some, IfOk, OnOk};
+ghost use Rattle.std.specs.Prelude.{◌≡◌, [], true, false, is_some, IfOk};
 ghost use Rattle.std.specs.Option.{ForSome};
 ghost use Rattle.zre_msg.specs.Lent.{message_of};
 ghost use Rattle.zre_peer.specs.Heads.{heads_of};
@@ -59,7 +59,7 @@ fn put(place: &mut Heads, heads: Heads)
 }
 
 impl Teller {
-    ghost use Rattle.zre_peer.specs.Standing.{Stands, Tells, RefusesToTell, IsSpentByRefusal, id_of, view_in, is_spent};
+    ghost use Rattle.zre_peer.specs.Standing.{Stands, Handed, id_of, view_in, is_spent};
 
     /// The run of a peer of which no message was taken yet. It takes no memory.
     pub fn new(alloc: Global, id: PeerId) -> Self
@@ -93,14 +93,8 @@ impl Teller {
     pub fn take(&mut self, mut message: Message, out: &mut Octets) -> Result<(), RunFault>
         // Nothing was refused.
         requires { is_spent self.old ≡ false }
-        // It is the next one: its lines.
-        ensures ok { Tells result self.old self.new message out.old out.new }
-        ensures going { OnOk result (is_spent self.new ≡ false) }
-        // It isn't: the fault, and no further message is taken.
-        ensures refused { RefusesToTell result self.old message out.old out.new }
-        ensures spent { IsSpentByRefusal result self.old self.new }
-        // The peer stays.
-        ensures id { id_of self.new ≡ id_of self.old }
+        // It is the next one, and its lines; or it isn't, and the fault.
+        ensures { Handed result self.old self.new message out.old out.new }
     {
         if self.is_after() {
             let told = self.take_later(&message, out);
@@ -124,14 +118,8 @@ impl Teller {
         // HELLO was taken, and nothing refused.
         requires going { is_spent self.old ≡ false }
         requires later { is_some (view_in self.old) ≡ true }
-        // It is the next one: its lines.
-        ensures ok { Tells result self.old self.new message.now out.old out.new }
-        ensures going { OnOk result (is_spent self.new ≡ false) }
-        // It isn't: the fault, and no further message is taken.
-        ensures refused { RefusesToTell result self.old message.now out.old out.new }
-        ensures spent { IsSpentByRefusal result self.old self.new }
-        // The peer stays.
-        ensures id { id_of self.new ≡ id_of self.old }
+        // It is the next one, and its lines; or it isn't, and the fault.
+        ensures { Handed result self.old self.new message.now out.old out.new }
     {
         match lent(message) {
             Some(lent) => self.take_lent(&lent, out),
@@ -144,14 +132,8 @@ impl Teller {
         // HELLO was taken, and nothing refused.
         requires going { is_spent self.old ≡ false }
         requires later { is_some (view_in self.old) ≡ true }
-        // It is the next one: its lines.
-        ensures ok { Tells result self.old self.new (message_of lent.now) out.old out.new }
-        ensures going { OnOk result (is_spent self.new ≡ false) }
-        // It isn't: the fault, and no further message is taken.
-        ensures refused { RefusesToTell result self.old (message_of lent.now) out.old out.new }
-        ensures spent { IsSpentByRefusal result self.old self.new }
-        // The peer stays.
-        ensures id { id_of self.new ≡ id_of self.old }
+        // It is the next one, and its lines; or it isn't, and the fault.
+        ensures { Handed result self.old self.new (message_of lent.now) out.old out.new }
     {
         self.run.tell(lent, &self.heads, out)
     }
@@ -160,14 +142,8 @@ impl Teller {
         // Nothing was taken or refused.
         requires going { is_spent self.old ≡ false }
         requires first { is_some (view_in self.old) ≡ false }
-        // It is the next one: its lines.
-        ensures ok { Tells result self.old self.new message.old out.old out.new }
-        ensures going { OnOk result (is_spent self.new ≡ false) }
-        // It isn't: the fault, and no further message is taken.
-        ensures refused { RefusesToTell result self.old message.old out.old out.new }
-        ensures spent { IsSpentByRefusal result self.old self.new }
-        // The peer stays.
-        ensures id { id_of self.new ≡ id_of self.old }
+        // It is the next one, and its lines; or it isn't, and the fault.
+        ensures { Handed result self.old self.new message.old out.old out.new }
     {
         let heads = heads_of(self.alloc, self.run.id(), &message.body)?;
         put(&mut self.heads, heads);

@@ -43,6 +43,7 @@ pub fn copied(alloc: Global, bodies: &LentBodies<'_>) -> Result<Frames, OutOfMem
 
 impl Tables {
     /// A message after the first, which lies in its frames, on the connection that runs the peer of this link.
+    #[inline(always)]
     pub fn later(
         &mut self,
         out: &mut Effects,

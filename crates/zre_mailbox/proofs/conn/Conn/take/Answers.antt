@@ -18,4 +18,4 @@ returns-clause-other g c = λ e.
     let live = sym (ap (λ (x : ConnHearing). x.phase) c.self.view_is) ∙ c.in-Live.is in
     let is = ap (λ i. let n : ConnHearing = record { phase = Live c.take.new.self; identity = i } in n) (ap (λ (x : ConnHearing). x.identity) c.self.view_is) in
     let same = unlent c.take.result c.in-Live.reader c.take.new.self c.args.piece.now c.take.ensures.taken e in
-    (is ∙ ap (λ r. let n : ConnHearing = record { phase = Live r; identity = h.identity } in n) same ∙ live_hearing h c.in-Live.reader live, c.take.ensures.other e)
+    (is ∙ ap (λ r. let n : ConnHearing = record { phase = Live r; identity = h.identity } in n) same ∙ live_hearing h c.in-Live.reader live, c.take.ensures.looks.other e)

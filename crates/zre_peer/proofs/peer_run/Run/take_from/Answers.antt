@@ -1,18 +1,9 @@
-use Rattle.std.proofs.Common.{◌++◌, [], ap, ◌∙◌}
-use Rattle.zre_peer.specs.Runs.{events_of}
-use Rattle.zre_peer.proofs.Standing.{taken_later, refused_later, in_order-refused, view_of_run}
+use Rattle.std.proofs.Common.{[], refl}
+use Rattle.zre_peer.proofs.Standing.{in_order-refused}
 use Rattle.zre_peer.proofs.peer_run.Run.take_from.Goals as goal
 
-pub returns-in-Ok-later-clause-ok : goal.returns-in-Ok-later-clause-ok
-returns-in-Ok-later-clause-ok c = λ ms s.
+pub returns-in-None-clause-refused : goal.returns-in-None-clause-refused
+returns-in-None-clause-refused c = λ ms s ne.
     let m = c.args.message.now in
-    let v = c.in-Some.view in
-    let t = taken_later c.args.self.now ms v c.later.new.self m _ s c.in-Some.is c.due-next.ensures c.in-Ok-later.ensures.ok.0 c.in-Ok-later.ensures.ok.1 in
-    (t.may, record { ordered = t.ordered; going = s.going; view = t.view; count = t.count }, c.in-Ok-later.ensures.ok.2 ∙ ap (λ x. c.args.events.now ++ events_of c.args.self.now.id x m.body) (view_of_run c.args.self.now ms v s c.in-Some.is))
-
-pub returns-in-Err-later-clause-refused : goal.returns-in-Err-later-clause-refused
-returns-in-Err-later-clause-refused c = λ ms s ne.
-    let m = c.args.message.now in
-    let h = c.in-Err-later.ensures.refused ne in
-    let f = refused_later c.args.self.now ms c.in-Some.view m _ _ s c.in-Some.is c.due-next.ensures h.0 h.1 in
-    (f.0, in_order-refused [] ms m f.0, f.1, h.2)
+    let h = c.refuse_hello.ensures.refused ms m s c.in-None.ensures in
+    (h.0, in_order-refused [] ms m h.0, h.1, refl)

@@ -1,20 +1,25 @@
-use Rattle.std.proofs.Common.{◌++◌, ap, ◌∙◌}
+use Rattle.std.proofs.Common.{◌++◌, [], ◌∷◌, ap, sym, subst, ◌∙◌}
 use Rattle.zre_msg.specs.Lent.{message_of}
+use Rattle.zre_peer.specs.declared.peer_run.Run.{Run}
 use Rattle.zre_peer.specs.Lines.{lines}
 use Rattle.zre_peer.specs.Runs.{events_of}
-use Rattle.zre_peer.proofs.Standing.{taken_later, refused_later, view_of_run}
+use Rattle.zre_peer.specs.Standing.{Stands}
+use Rattle.zre_peer.proofs.Standing.{taken_later, refused_later, view_of_run, on_all, if_passed}
 use Rattle.zre_peer.proofs.peer_run.Run.tell.Goals as goal
 
-pub returns-in-Ok-clause-ok : goal.returns-in-Ok-clause-ok
-returns-in-Ok-clause-ok c = λ ms s.
+pub returns-clause-ok : goal.returns-clause-ok
+returns-clause-ok c = λ ms s.
     let m = message_of c.args.lent.now in
     let v = c.in-Some.view in
-    let t = taken_later c.args.self.now ms v c.tell_later.new.self m _ s c.in-Some.is c.due-next.ensures c.in-Ok.ensures.ok.0 c.in-Ok.ensures.ok.1 in
-    (t.may, record { ordered = t.ordered; going = s.going; view = t.view; count = t.count }, c.in-Ok.ensures.told c.args.self.now.id (c.requires.ready v c.in-Some.is) ∙ ap (λ x. c.args.out.now ++ lines (events_of c.args.self.now.id x m.body)) (view_of_run c.args.self.now ms v s c.in-Some.is))
+    let told = c.tell_later-taken.ensures.told c.args.self.now.id (c.requires.ready v c.in-Some.is) in
+    on_all c.settle.result c.tell_later-taken.result c.settle.ensures.same c.tell_later-taken.ensures.ok told c.settle.ensures.ok (λ a lines_are b.
+    let t = taken_later c.args.self.now ms v c.tell_later-taken.new.self m _ s c.in-Some.is c.due-next.ensures a.0 a.1 in
+    (t.may, subst (λ (r : Run). Stands r (ms ++ m ∷ [])) (sym b) (record { ordered = t.ordered; going = s.going; view = t.view; count = t.count }), lines_are ∙ ap (λ x. c.args.out.now ++ lines (events_of c.args.self.now.id x m.body)) (view_of_run c.args.self.now ms v s c.in-Some.is)))
 
-pub returns-in-Err-clause-refused : goal.returns-in-Err-clause-refused
-returns-in-Err-clause-refused c = λ ms s ne.
+pub returns-clause-refused : goal.returns-clause-refused
+returns-clause-refused c = λ ms s.
     let m = message_of c.args.lent.now in
-    let h = c.in-Err.ensures.refused ne in
+    if_passed c.settle.result c.tell_later-taken.result c.settle.ensures.same c.tell_later-taken.ensures.refused (λ e why ne.
+    let h = why ne in
     let f = refused_later c.args.self.now ms c.in-Some.view m _ _ s c.in-Some.is c.due-next.ensures h.0 h.1 in
-    (f.0, f.1, h.2)
+    (f.0, f.1, h.2))
