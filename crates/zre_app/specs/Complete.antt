@@ -17,7 +17,7 @@ use Rattle.zre_app.specs.declared.command.Command.{Command}
 use Rattle.zre_app.specs.declared.command.Command.TheVariants.{Plain, Chat}
 use Rattle.zre_app.specs.Does.{Work, work_of}
 use Rattle.zre_app.specs.Does.Work.{Reads, Writes}
-use Rattle.zre_app.specs.Given.{Streams, streams_of}
+use Rattle.zre_app.specs.Given.{Streams, streams_of, Views, Handed, seen_of}
 
 -- the status says that all went well, and it did; or memory ran out
 abbrev pub WellOrShort : Status → (all : Type 0) → Type 0
@@ -51,6 +51,11 @@ Completes (Some (Chat c)) limit status s t =
     (chat : IsChat c.config c.start c.capture limit s t status) → NoneRose s t
     → length chat.octets < limit → chat.lived.turns < limit
     → WellOrShort status (Appends s.written t.written (lines (events c.config chat.lived.entries)))
+
+-- the same of what is handed in, as it was before and after
+abbrev pub CompletesAll : {I W O R P : Type 0} → Views I W O R P → Option Command → (limit : ℕ) → Status
+    → Handed I W O R P → Handed I W O R P → Type 0
+CompletesAll v c limit status h h' = Completes c limit status (seen_of v h) (seen_of v h')
 
 -- fewer octets of it than the limit were taken
 abbrev pub IsBelow : (limit : ℕ) → Client → Type 0

@@ -1,9 +1,9 @@
 //! The top call: the command that the words ask for, over a source and a sink, and for `chat` a world, a recorder and a
 //! spawner.
 
-ghost use Rattle.zre_app.specs.Complete.{Completes};
+ghost use Rattle.zre_app.specs.Complete.{CompletesAll};
 ghost use Rattle.zre_app.specs.Does.{Did, KeepsItsLedgers};
-ghost use Rattle.zre_app.specs.Given.{handed, seen_of, stream_views, views};
+ghost use Rattle.zre_app.specs.Given.{handed, stream_views, views};
 ghost use Rattle.std.specs.Prelude.{◌≡◌, true};
 ghost use Rattle.zre_console.specs.Statuses.{IsFirst, IsReadSo};
 ghost use Rattle.zre_app.specs.Words.{command_of, is_chat};
@@ -56,12 +56,10 @@ pub fn run<
         (R.refused result.rec ≡ R.refused rec) (W.refused result.world ≡ W.refused world)
         (P.faults spawner.new ≡ P.faults spawner.old) }
     ensures ledgers { KeepsItsLedgers (command_of words.now) }
-    ensures complete { Completes (command_of words.now) limit result.status
-        (seen_of (views (stream_views I.left I.taken I.faults O.written O.faults)
-        W.told W.faults R.kept R.named R.faults P.faults) (handed input world out.old rec spawner.old))
-        (seen_of (views (stream_views I.left I.taken I.faults O.written O.faults)
+    ensures complete { CompletesAll (views (stream_views I.left I.taken I.faults O.written O.faults)
         W.told W.faults R.kept R.named R.faults P.faults)
-        (handed result.input result.world out.new result.rec spawner.new)) }
+        (command_of words.now) limit result.status (handed input world out.old rec spawner.old)
+        (handed result.input result.world out.new result.rec spawner.new) }
 {
     if !is_chat(words) {
         let PlainEnded { status, input } = plain(alloc, words, input, out, limit);
@@ -118,12 +116,10 @@ pub fn zre<
         (R.refused result.rec ≡ R.refused rec) (W.refused result.world ≡ W.refused world)
         (P.faults spawner.new ≡ P.faults spawner.old) }
     ensures ledgers { KeepsItsLedgers (command_of words.now) }
-    ensures complete { Completes (command_of words.now) LIMIT result.status
-        (seen_of (views (stream_views I.left I.taken I.faults O.written O.faults)
-        W.told W.faults R.kept R.named R.faults P.faults) (handed input world out.old rec spawner.old))
-        (seen_of (views (stream_views I.left I.taken I.faults O.written O.faults)
+    ensures complete { CompletesAll (views (stream_views I.left I.taken I.faults O.written O.faults)
         W.told W.faults R.kept R.named R.faults P.faults)
-        (handed result.input result.world out.new result.rec spawner.new)) }
+        (command_of words.now) LIMIT result.status (handed input world out.old rec spawner.old)
+        (handed result.input result.world out.new result.rec spawner.new) }
 {
     run(rt, alloc, words, input, world, out, rec, spawner, LIMIT)
 }

@@ -1,3 +1,4 @@
 pub mod Showing
 pub mod Writing
 pub mod Unrefused
+pub mod Trying

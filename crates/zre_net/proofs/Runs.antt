@@ -67,3 +67,17 @@ pub all_came : (moves left after : List Move) (Is : List Move → Type 0) (o : O
 all_came moves left after Is o p next none =
     let ended = subst (λ found. IsNext found left after) none next in
     subst Is (sym (append-nil p.came) ∙ ap (λ ms. p.came ++ ms) (sym ended.0) ∙ sym p.all) p.is
+
+-- ---- moves that are read and run one by one, and what is kept of them
+
+module _ (moves left after : List Move) (Kept : List Move → Type 0) (line : ℕ) (net : Network) (o : Option Move) (m : Move)
+    (p : Partly moves left (λ came. Goes came line net × Kept came)) (next : IsNext o left after) (is : o ≡ Some m) where
+  -- the next one can't come
+  pub next_stops : false ≡ is_good m (history p.came) → bad_move moves ≡ Some line
+  next_stops bad = ap bad_move (with_next moves left after (λ came. Goes came line net × Kept came) o m p next is) ∙ stops_at p.came after m line net p.is.0 bad
+
+  -- it came
+  pub next_comes : (Kept' : List Move → Type 0) (line' : ℕ) (net' : Network) → line' ≡ line + 1 → HasRun (p.came ++ m ∷ []) net' → Kept' (p.came ++ m ∷ [])
+      → Partly moves after (λ came. Goes came line' net' × Kept' came)
+  next_comes Kept' line' net' more runs kept = one_came moves left after (λ came. Goes came line net × Kept came) (λ came. Goes came line' net' × Kept' came) o m p next is
+      (subst (λ (n : ℕ). Goes (p.came ++ m ∷ []) n net') (sym more) (goes_on p.came m line net net' p.is.0 runs), kept)

@@ -31,6 +31,7 @@ impl<T> Adapter<T> {
     /// An adapter over a reader or a writer, with a count of 0.
     pub fn new(inner: T) -> Self
         ensures inner { inner_of result ≡ inner }
+        // Nothing failed yet.
         ensures faults { faults_of result ≡ 0 }
         ensures reason { reason_of result ≡ None }
         ensures refused { is_refused result ≡ false }

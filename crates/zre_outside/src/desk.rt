@@ -21,16 +21,20 @@ pub trait Desk {
 
     /// Begins to listen at an address and a port.
     fn begin(&mut self, addr: [u8; 4], port: u16) -> Result<(), Failed>
+        // What it tells.
         ensures told { OnOk result (told self.new ≡ option_map (with_begun addr port) (told self.old)) }
         ensures refused { OnErr result (told self.new ≡ told self.old) }
+        // A desk that fails.
         ensures later { faults self.old ≤ faults self.new }
         ensures failed { OnErr result (Rose (faults self.old) (faults self.new)) }
         ensures counts { refused self.new ≡ refused_after (is_err result) (refused self.old) };
 
     /// Waits for the next client.
     fn next(&mut self) -> Result<Self::Client, Failed>
+        // What it tells.
         ensures told { IfOk result (λ c. told self.new ≡ option_map (with_given c) (told self.old)) }
         ensures refused { OnErr result (told self.new ≡ told self.old) }
+        // A desk that fails.
         ensures later { faults self.old ≤ faults self.new }
         ensures failed { OnErr result (Rose (faults self.old) (faults self.new)) }
         ensures counts { refused self.new ≡ refused_after (is_err result) (refused self.old) };

@@ -49,8 +49,10 @@ pub trait World {
 
     /// Does an act of a node. What fails outside comes back as a later entry.
     fn act(&mut self, act: &Act) -> Result<(), OutOfMemory>
+        // What it tells.
         ensures ok { OnOk result (told self.new ≡ option_map (with_deed (DeedValue.Done act.now)) (told self.old)) }
         ensures err { OnErr result (told self.new ≡ told self.old) }
+        // What stays as it was.
         ensures looked { looked self.new ≡ looked self.old }
         ensures faults { faults self.new ≡ faults self.old }
         ensures counts { refused self.new ≡ refused self.old };
@@ -58,9 +60,11 @@ pub trait World {
     /// Offers a link what it may send. How much of it was sent comes back as a later entry; before that, a further
     /// offer on this link sends nothing.
     fn offer(&mut self, link: u64, bytes: &[u8]) -> Result<(), OutOfMemory>
+        // What it tells.
         ensures ok { OnOk result (told self.new ≡ option_map (with_deed (DeedValue.Offered link bytes.now))
             (told self.old)) }
         ensures err { OnErr result (told self.new ≡ told self.old) }
+        // What stays as it was.
         ensures looked { looked self.new ≡ looked self.old }
         ensures faults { faults self.new ≡ faults self.old }
         ensures counts { refused self.new ≡ refused self.old };

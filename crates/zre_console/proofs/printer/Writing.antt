@@ -1,8 +1,6 @@
 -- What is printed, step by step.
-use Rattle.std.proofs.Common.{◌≡◌, ℕ, List, [], ◌++◌, ◌∙◌, Option, Some, None, refl, sym, ap, subst, append_assoc, append-nil}
-use Rattle.std.specs.Prelude.{IsSome}
+use Rattle.std.proofs.Common.{◌≡◌, ℕ, List, [], ◌++◌, ◌∙◌, Option, None, refl, sym, ap, subst, append_assoc, append-nil}
 use Rattle.std.specs.Io.KnownBytes.{Appends}
-use Rattle.zre_outside.specs.declared.sink.NextFault.{NextFault}
 use Rattle.zre_peer.specs.declared.event.Event.{Event}
 use Rattle.zre_actor.specs.declared.passes.CallerPass.{CallerPass}
 use Rattle.zre_actor.specs.declared.passes.TakerPass.{TakerPass}
@@ -13,11 +11,6 @@ use Rattle.zre_console.specs.declared.printer.page.Page.{Page}
 use Rattle.zre_console.specs.printer.Asking.{HasAsked}
 use Rattle.zre_console.specs.printer.Pages.{Shows}
 use Rattle.zre_console.specs.printer.Printing.{Prints, HasPrinted}
-
--- a fault stays, so where there is none there was none
-pub none_before : (f f' : Option NextFault) → (IsSome f → f' ≡ f) → f' ≡ None → f ≡ None
-none_before None f' stays is = refl
-none_before (Some x) f' stays is = sym (stays refl) ∙ is
 
 module _ (first : Asker) (start : TakerPass) (w : Option (List ℕ)) (a : Asker) (t : TakerPass) (page : Page) (x : Option (List ℕ)) (p : Prints first start w a t page x) where
   pub asked_more : (a' : Asker) → ((pass : CallerPass) → HasAsked pass a → HasAsked pass a') → (page.fault ≡ None → a.wish ≡ No → a'.wish ≡ No) → Prints first start w a' t page x

@@ -1,13 +1,12 @@
 //! The text that waits to be written.
 
-ghost use Rattle.std.specs.Prelude.{◌≡◌, ◌≤◌, ◌++◌, ◌∷◌, ℕ, List, [], Option, Some, None, IsSome, ◌⊎◌};
+ghost use Rattle.std.specs.Prelude.{◌≡◌, ◌≤◌, ◌++◌, ◌∷◌, ℕ, List, [], Option, None};
 ghost use Rattle.std.specs.Prelude.{OnOk, OnErr, IsErrOf};
 ghost use Rattle.zre_outside.specs.Causes.{Rose};
 ghost use Rattle.zre_outside.specs.Told.{AppendsFront, WritesThrough};
-ghost use Rattle.zre_outside.specs.declared.sink.NextFault.TheVariants.{Failed};
 ghost use Rattle.zre_peer.specs.declared.event.Event.{Event as EventValue};
 ghost use Rattle.zre_peer.specs.Lines.{line};
-ghost use Rattle.zre_console.specs.printer.Pages.{Shows, fresh};
+ghost use Rattle.zre_console.specs.printer.Pages.{Shows, StillShows, Tries, fresh};
 
 use std::alloc::Global;
 use zre_outside::{NextFault, Sink, write_gathered, write_much};
@@ -57,11 +56,8 @@ impl Page {
         ensures shows { (w : Option (List ℕ)) (es : List EventValue) → Shows self.old w (O.written out.old) es →
             Shows self.new w (O.written out.new) (es ++ event.now ∷ []) }
         // After a fault nothing more is printed; the count rises where the sink failed.
-        ensures stays { IsSome self.old.fault → self.new ≡ self.old }
-        ensures later { O.faults out.old ≤ O.faults out.new }
-        ensures failed { self.new.fault ≡ Some Failed → (self.old.fault ≡ Some Failed)
-            ⊎ Rose (O.faults out.old) (O.faults out.new) }
-        ensures counts { self.new.fault ≡ None → O.refused out.new ≡ O.refused out.old }
+        ensures tries { Tries self.old self.new (O.faults out.old) (O.faults out.new) (O.refused out.old)
+            (O.refused out.new) }
     {
         if self.fault.is_some() {
             return;
@@ -74,15 +70,11 @@ impl Page {
     /// Writes what has been gathered.
     pub fn write<O: Sink>(&mut self, out: &mut O)
         // What was written, and what the page holds.
-        ensures shows { (w : Option (List ℕ)) (es : List EventValue) → Shows self.old w (O.written out.old) es →
-            Shows self.new w (O.written out.new) es }
+        ensures shows { StillShows self.old self.new (O.written out.old) (O.written out.new) }
         ensures written { self.new.fault ≡ None → self.new.text ≡ [] }
         // After a fault nothing more is written; the count rises where the sink failed.
-        ensures stays { IsSome self.old.fault → self.new ≡ self.old }
-        ensures later { O.faults out.old ≤ O.faults out.new }
-        ensures failed { self.new.fault ≡ Some Failed → (self.old.fault ≡ Some Failed)
-            ⊎ Rose (O.faults out.old) (O.faults out.new) }
-        ensures counts { self.new.fault ≡ None → O.refused out.new ≡ O.refused out.old }
+        ensures tries { Tries self.old self.new (O.faults out.old) (O.faults out.new) (O.refused out.old)
+            (O.refused out.new) }
     {
         if self.fault.is_some() || self.text.is_empty() {
             return;
@@ -95,16 +87,11 @@ impl Page {
     // Tells the sink by a write of no octets that there is nothing more to come.
     fn tell_end<O: Sink>(&mut self, out: &mut O)
         // No octet is written.
-        ensures shows { (w : Option (List ℕ)) (es : List EventValue) → Shows self.old w (O.written out.old) es →
-            Shows self.new w (O.written out.new) es }
+        ensures shows { StillShows self.old self.new (O.written out.old) (O.written out.new) }
         ensures text { self.new.text ≡ self.old.text }
         // A fault stays; the count rises where the sink failed.
-        ensures calm { self.new.fault ≡ None → self.old.fault ≡ None }
-        ensures stays { IsSome self.old.fault → self.new ≡ self.old }
-        ensures later { O.faults out.old ≤ O.faults out.new }
-        ensures failed { self.new.fault ≡ Some Failed → (self.old.fault ≡ Some Failed)
-            ⊎ Rose (O.faults out.old) (O.faults out.new) }
-        ensures counts { self.new.fault ≡ None → O.refused out.new ≡ O.refused out.old }
+        ensures tries { Tries self.old self.new (O.faults out.old) (O.faults out.new) (O.refused out.old)
+            (O.refused out.new) }
     {
         let told = out.write(&[]);
         if self.fault.is_some() {
@@ -118,15 +105,11 @@ impl Page {
     /// Writes what has been gathered, and tells the sink by a write of no octets that there is nothing more to come.
     pub fn close<O: Sink>(&mut self, out: &mut O)
         // What was written, and that nothing is left.
-        ensures shows { (w : Option (List ℕ)) (es : List EventValue) → Shows self.old w (O.written out.old) es →
-            Shows self.new w (O.written out.new) es }
+        ensures shows { StillShows self.old self.new (O.written out.old) (O.written out.new) }
         ensures written { self.new.fault ≡ None → self.new.text ≡ [] }
         // After a fault nothing more is written; the count rises where the sink failed.
-        ensures stays { IsSome self.old.fault → self.new ≡ self.old }
-        ensures later { O.faults out.old ≤ O.faults out.new }
-        ensures failed { self.new.fault ≡ Some Failed → (self.old.fault ≡ Some Failed)
-            ⊎ Rose (O.faults out.old) (O.faults out.new) }
-        ensures counts { self.new.fault ≡ None → O.refused out.new ≡ O.refused out.old }
+        ensures tries { Tries self.old self.new (O.faults out.old) (O.faults out.new) (O.refused out.old)
+            (O.refused out.new) }
     {
         self.write(out);
         self.tell_end(out);

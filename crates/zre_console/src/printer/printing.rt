@@ -1,11 +1,10 @@
 //! What the node tells is taken and printed until Last.
 
-ghost use Rattle.std.specs.Prelude.{◌≡◌, ◌≤◌, ℕ, List, [], true, Option, None, Some, IsSome, MatchOption, ◌⊎◌};
+ghost use Rattle.std.specs.Prelude.{◌≡◌, ◌≤◌, ℕ, List, [], true, Option, None, Some, IsSome, MatchOption};
 ghost use Rattle.zre_outside.specs.Causes.{Rose};
 ghost use Rattle.zre_outside.specs.declared.sink.NextFault.TheVariants.{Failed};
-ghost use Rattle.zre_peer.specs.declared.event.Event.{Event as EventValue};
 ghost use Rattle.zre_actor.specs.Passes.{IsCallerOf, IsTakerOf, IsTold, taken_by, last_of};
-ghost use Rattle.zre_console.specs.printer.Pages.{Shows};
+ghost use Rattle.zre_console.specs.printer.Pages.{StillShows, Tries};
 ghost use Rattle.zre_actor.specs.declared.passes.TakerPass.{TakerPass as TakerPassValue};
 ghost use Rattle.zre_console.specs.declared.printer.asker.Asker.{Asker as AskerValue};
 ghost use Rattle.zre_console.specs.printer.Printing.{HasPrinted, Prints, IsLast};
@@ -46,14 +45,9 @@ impl Page {
         // What was taken, and what was written meanwhile.
         ensures told { MatchOption result.1 ((taken_by result.0 ≡ taken_by taker) × (last_of result.0 ≡ last_of taker))
             (λ told. IsTold taker told result.0) }
-        ensures shows { (w : Option (List ℕ)) (es : List EventValue) → Shows self.old w (O.written out.old) es
-            → Shows self.new w (O.written out.new) es }
-        // The count rises where the sink failed, and a fault stays.
-        ensures later { O.faults out.old ≤ O.faults out.new }
-        ensures failed { self.new.fault ≡ Some Failed → (self.old.fault ≡ Some Failed)
-            ⊎ Rose (O.faults out.old) (O.faults out.new) }
-        ensures counts { self.new.fault ≡ None → O.refused out.new ≡ O.refused out.old }
-        ensures stays { IsSome self.old.fault → self.new.fault ≡ self.old.fault }
+        ensures shows { StillShows self.old self.new (O.written out.old) (O.written out.new) }
+        ensures tries { Tries self.old self.new (O.faults out.old) (O.faults out.new) (O.refused out.old)
+            (O.refused out.new) }
     {
         let (taker, found) = pipes.try_take(rt, taker);
         if found.is_some() {
@@ -87,12 +81,9 @@ impl Page {
         ensures prints { (first : AskerValue) (start : TakerPassValue) (w : Option (List ℕ))
             → Prints first start w asker taker self.old (O.written out.old) →
             Prints first start w result.1 result.0 self.new (O.written out.new) }
-        // The count rises where the sink failed, and a fault stays.
-        ensures calm { self.new.fault ≡ None → self.old.fault ≡ None }
-        ensures later { O.faults out.old ≤ O.faults out.new }
-        ensures failed { self.new.fault ≡ Some Failed → (self.old.fault ≡ Some Failed)
-            ⊎ Rose (O.faults out.old) (O.faults out.new) }
-        ensures counts { self.new.fault ≡ None → O.refused out.new ≡ O.refused out.old }
+        // A fault stays; the count rises where the sink failed.
+        ensures tries { Tries self.old self.new (O.faults out.old) (O.faults out.new) (O.refused out.old)
+            (O.refused out.new) }
     {
         let asker = asker.ask(rt, pipes, self.fault.is_some());
         let (taker, found) = self.next_told(rt, pipes, taker, out, asker.wish);

@@ -4,6 +4,7 @@ use Rattle.std.proofs.Common.{⊎_elim}
 use Rattle.zre_actor.specs.Passes.{taken_by, last_of}
 use Rattle.zre_outside.proofs.Rising.{rose_since, rose_still}
 use Rattle.zre_console.specs.printer.Printing.{IsLast}
+use Rattle.zre_console.proofs.printer.Trying.{none_before}
 use Rattle.zre_console.proofs.printer.Writing.{has_printed}
 use Rattle.zre_console.proofs.printer.printing.print_all.Goals as goal
 
@@ -30,9 +31,9 @@ loop-preserved g c = let o = g.O.Sink in let h = c.loop.invariant in let n = c.p
   caller = n.ensures.pipes.1;
   open_ = subst (λ b. IsLast b (last_of n.result.0)) c.if-is_last.false n.ensures.last;
   prints = n.ensures.prints c.args.asker c.args.taker (o.written c.args.out.now) h.prints;
-  later = omega (arith, h.later, n.ensures.later);
-  counts = λ none. n.ensures.counts none ∙ h.counts (n.ensures.calm none);
-  failed = λ is. ⊎_elim (λ was. rose_still (o.faults c.args.out.now) (o.faults c.loop.out) (o.faults n.new.out) n.ensures.later (h.failed was)) (λ rose. rose_since (o.faults c.args.out.now) (o.faults c.loop.out) (o.faults n.new.out) h.later rose) (n.ensures.failed is);
+  later = omega (arith, h.later, n.ensures.tries.later);
+  counts = λ none. n.ensures.tries.counts none ∙ h.counts (none_before _ _ _ _ _ _ n.ensures.tries none);
+  failed = λ is. ⊎_elim (λ was. rose_still (o.faults c.args.out.now) (o.faults c.loop.out) (o.faults n.new.out) n.ensures.tries.later (h.failed was)) (λ rose. rose_since (o.faults c.args.out.now) (o.faults c.loop.out) (o.faults n.new.out) h.later rose) (n.ensures.tries.failed is);
 }
 
 pub returns-then-is_last-clause-printed : goal.returns-then-is_last-clause-printed
@@ -42,8 +43,8 @@ returns-then-is_last-clause-printed g c = let o = g.O.Sink in let h = c.loop.inv
 
 pub returns-then-is_last-clause-failed : goal.returns-then-is_last-clause-failed
 returns-then-is_last-clause-failed g c = let o = g.O.Sink in let h = c.loop.invariant in let n = c.print_next-pass in
-    λ is. ⊎_elim (λ was. rose_still (o.faults c.args.out.now) (o.faults c.loop.out) (o.faults n.new.out) n.ensures.later (h.failed was)) (λ rose. rose_since (o.faults c.args.out.now) (o.faults c.loop.out) (o.faults n.new.out) h.later rose) (n.ensures.failed is)
+    λ is. ⊎_elim (λ was. rose_still (o.faults c.args.out.now) (o.faults c.loop.out) (o.faults n.new.out) n.ensures.tries.later (h.failed was)) (λ rose. rose_since (o.faults c.args.out.now) (o.faults c.loop.out) (o.faults n.new.out) h.later rose) (n.ensures.tries.failed is)
 
 pub returns-then-is_last-clause-counts : goal.returns-then-is_last-clause-counts
 returns-then-is_last-clause-counts g c = let h = c.loop.invariant in let n = c.print_next-pass in
-    λ none. n.ensures.counts none ∙ h.counts (n.ensures.calm none)
+    λ none. n.ensures.tries.counts none ∙ h.counts (none_before _ _ _ _ _ _ n.ensures.tries none)

@@ -1,10 +1,8 @@
-use Rattle.std.proofs.Common.{◌++◌, ◌∷◌, [], ◌∙◌, ap, sym, subst, ℕ}
+use Rattle.std.proofs.Common.{◌≡◌, ◌++◌, ◌∙◌, ap, sym}
 use Rattle.std.proofs.lemmas.Bool.{OnTrue_at}
-use Rattle.zre_net.specs.Answer.{bad_move}
-use Rattle.zre_net.specs.Running.{Goes}
 use Rattle.zre_net.specs.Said.{said}
 use Rattle.zre_net.proofs.Handing.{said_on}
-use Rattle.zre_net.proofs.Runs.{goes_first, goes_on, stops_at, none_came, with_next, one_came, all_came}
+use Rattle.zre_net.proofs.Runs.{goes_first, none_came, next_stops, next_comes, all_came}
 use Rattle.zre_net.proofs.running.schedule.run.Goals as goal
 
 pub lines-init : goal.lines-init
@@ -12,21 +10,17 @@ lines-init c = none_came _ _ (goes_first c.in_ok-network.network c.in_ok-network
 
 pub returns-then-not-branch-clause-refused : goal.returns-then-not-branch-clause-refused
 returns-then-not-branch-clause-refused c =
-    let p = c.lines.invariant in
-    ap bad_move (with_next _ _ _ _ _ c.in-Some.one p c.in_ok-one.ensures c.in-Some.is)
-    ∙ stops_at p.came c.next.new.self c.in-Some.one c.lines.line c.lines.network p.is.0
+    let l = c.lines in let p = l.invariant in
+    next_stops _ _ _ (λ came. l.said ≡ said came) l.line l.network _ c.in-Some.one p c.in_ok-one.ensures c.in-Some.is
     (sym c.if-not-branch.true ∙ c.in_ok-take.ensures.good p.came p.is.0.runs)
 
 pub lines-preserved : goal.lines-preserved
 lines-preserved c =
-    let p = c.lines.invariant in
-    let good = c.if-not-branch.false in
-    let told = OnTrue_at good (c.in_ok-take.ensures.told p.came p.is.0.runs) in
-    one_came _ _ _ _ _ _ c.in-Some.one p c.in_ok-one.ensures c.in-Some.is (
-      subst (λ (n : ℕ). Goes (p.came ++ c.in-Some.one ∷ []) n c.take.new.self) (sym c.in-Some-checked_add.ensures.1)
-          (goes_on p.came c.in-Some.one c.lines.line c.lines.network c.take.new.self p.is.0 (OnTrue_at good (c.in_ok-take.ensures.runs p.came p.is.0.runs))),
-      c.in_ok-append.ensures ∙ ap (λ es. es ++ c.replace.result) p.is.1 ∙ ap (λ es. said p.came ++ es) (c.replace.ensures.value ∙ told) ∙ sym (said_on p.came c.in-Some.one),
-    )
+    let l = c.lines in let p = l.invariant in let good = c.if-not-branch.false in let took = c.in_ok-take.ensures in
+    let told = OnTrue_at good (took.told p.came p.is.0.runs) in
+    next_comes _ _ _ (λ came. l.said ≡ said came) l.line l.network _ c.in-Some.one p c.in_ok-one.ensures c.in-Some.is (λ came. c.append.new.said ≡ said came) _ c.take.new.self
+    c.in-Some-checked_add.ensures.1 (OnTrue_at good (took.runs p.came p.is.0.runs))
+    (c.in_ok-append.ensures ∙ ap (λ es. es ++ c.replace.result) p.is.1 ∙ ap (λ es. said p.came ++ es) (c.replace.ensures.value ∙ told) ∙ sym (said_on p.came c.in-Some.one))
 
 pub returns-clause-told : goal.returns-clause-told
 returns-clause-told c =

@@ -1,5 +1,5 @@
-use Rattle.std.proofs.Common.{◌∙◌}
+use Rattle.zre_console.proofs.printer.Trying.{then_tries}
 use Rattle.zre_console.proofs.printer.page.Page.close.Goals as goal
 
-pub returns-clause-counts : goal.returns-clause-counts
-returns-clause-counts g c = λ none. c.tell_end.ensures.counts none ∙ c.write.ensures.counts (c.tell_end.ensures.calm none)
+pub returns-clause-tries : goal.returns-clause-tries
+returns-clause-tries g c = then_tries _ _ _ _ _ _ _ _ _ c.write.ensures.tries c.tell_end.ensures.tries
