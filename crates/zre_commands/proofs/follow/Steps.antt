@@ -11,7 +11,7 @@ use Rattle.zre_msg.specs.declared.message.Bad.{Bad}
 use Rattle.zre_msg.specs.declared.message.Message.{Message}
 use Rattle.zre_peer.specs.Lines.{line, lines}
 use Rattle.zre_peer.specs.Runs.{events_of, fault_of, shown}
-use Rattle.zre_peer.specs.Standing.{Stands, id_of, is_spent, view_in}
+use Rattle.zre_peer.specs.Standing.{Stands, Handed, id_of, is_spent, view_in}
 use Rattle.zre_peer.specs.Views.{view_of}
 use Rattle.zre_peer.specs.declared.event.Event.{Event}
 use Rattle.zre_peer.specs.declared.peer_run.Run.{Run}
@@ -23,7 +23,7 @@ use Rattle.zre_zmtp.specs.declared.item.What.{What}
 use Rattle.zre_zmtp.specs.declared.item.What.TheVariants as says
 use Rattle.zre_commands.specs.follow.Messages.{meant, meant_by, messages_in}
 use Rattle.zre_commands.specs.follow.Runs.{end_of, events_after, is_over}
-use Rattle.zre_commands.specs.follow.Taken.{Handed, Takes, Took}
+use Rattle.zre_commands.specs.follow.Taken.{Takes, Took}
 use Rattle.zre_commands.proofs.follow.Growing.{events_more, over_more, messages_in-append}
 
 -- no message was taken
@@ -40,14 +40,14 @@ pub goes_on : (was now : Run) (m : Message) (out out' : List ℕ) → Handed (Ok
 unfolding events_after is_over
 goes_on was now m out out' h = record {
   took = λ ms s.
-      let t = h.told ms s in
+      let t = h.ok ms s in
       record {
         lines_of = rw t.0 (t.2 ∙ ap (λ es. out ++ lines es) (sym (append-nil (events_of (id_of was) (view_of ms) m.body))));
         over = rw t.0 h.going;
         stands = λ _. t.1;
       };
   spent = h.going;
-  same = h.same;
+  same = h.id;
 }
 
 line_alone : (e : Event) → line e ≡ lines (e ∷ [])
@@ -63,7 +63,7 @@ ends_so was now m fault out out' next memory h e = record {
       record {
         lines_of = rw r.0
             (e ∙ ap (λ (o : List ℕ). o ++ line (end_of (id_of now) (view_in now) fault)) r.2
-            ∙ ap (λ (id : PeerId). out ++ line (end_of id (view_in now) fault)) h.same
+            ∙ ap (λ (id : PeerId). out ++ line (end_of id (view_in now) fault)) h.id
             ∙ ap (λ (v : Option View). out ++ line (end_of (id_of was) v fault)) ((h.spent memory).1 ∙ s.view)
             ∙ ap (λ (f : RunFault). out ++ line (end_of (id_of was) (shown ms) f)) r.1
             ∙ ap (λ (o : List ℕ). out ++ o) (line_alone (end_of (id_of was) (shown ms) (fault_of ms m))));
@@ -71,7 +71,7 @@ ends_so was now m fault out out' next memory h e = record {
         stands = λ g. absurd (true≢false (sym (h.spent memory).0 ∙ g));
       };
   spent = (h.spent memory).0;
-  same = h.same;
+  same = h.id;
 }
 
 -- no memory was left

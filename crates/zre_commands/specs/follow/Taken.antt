@@ -4,18 +4,9 @@ use Rattle.zre_values.specs.declared.memory.OutOfMemory.{OutOfMemory}
 use Rattle.zre_values.specs.declared.peer_id.PeerId.{PeerId}
 use Rattle.zre_msg.specs.declared.message.Message.{Message}
 use Rattle.zre_peer.specs.Lines.{lines}
-use Rattle.zre_peer.specs.Standing.{Stands, Tells, RefusesToTell, IsSpentByRefusal, id_of, is_spent}
+use Rattle.zre_peer.specs.Standing.{Stands, id_of, is_spent}
 use Rattle.zre_peer.specs.declared.peer_run.Run.{Run}
-use Rattle.zre_peer.specs.declared.peer_run.RunFault.{RunFault}
 use Rattle.zre_commands.specs.follow.Runs.{events_after, is_over}
-
--- a run was handed a message, and answered so
-pub record Handed (answer : Result (Unit {0}) RunFault) (was now : Run) (m : Message) (out out' : List ℕ) : Type 0 where
-  pub told : Tells answer was now m out out'
-  pub going : OnOk answer (is_spent now ≡ false)
-  pub refused : RefusesToTell answer was m out out'
-  pub spent : IsSpentByRefusal answer was now
-  pub same : id_of now ≡ id_of was
 
 -- some messages were taken after others, up to the end of the run
 pub record Took (id : PeerId) (ms ns : List Message) (run : Run) (out out' : List ℕ) : Type 0 where

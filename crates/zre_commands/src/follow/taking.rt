@@ -2,11 +2,11 @@
 
 ghost use Rattle.std.specs.Prelude.{◌≡◌, ◌∷◌, [], ℕ, List, false, IfOk, OnOk};
 ghost use Rattle.zre_msg.specs.declared.message.Message.{Message};
-ghost use Rattle.zre_peer.specs.Standing.{Stands, id_of, is_spent};
+ghost use Rattle.zre_peer.specs.Standing.{Stands, Handed, id_of, is_spent};
 ghost use Rattle.zre_peer.specs.declared.peer_run.Run.{Run};
 ghost use Rattle.zre_zmtp.specs.Front.{bodies_of};
 ghost use Rattle.zre_commands.specs.follow.Messages.{meant_by, messages_in};
-ghost use Rattle.zre_commands.specs.follow.Taken.{Handed, Takes, Took};
+ghost use Rattle.zre_commands.specs.follow.Taken.{Takes, Took};
 
 use crate::follow::ends::push_end;
 use std::alloc::Global;
