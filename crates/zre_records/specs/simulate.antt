@@ -1,2 +1,3 @@
 pub mod Simulate
 pub mod Simulator
+pub mod Writing

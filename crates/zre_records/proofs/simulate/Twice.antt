@@ -1,7 +1,7 @@
 -- The lines of what the nodes tell, move by move.
-use Rattle.std.proofs.Common.{◌≡◌, ℕ, List, [], ◌∷◌, ◌++◌, Option, Some, None, refl, sym, ap, ◌∙◌, subst, append_assoc, append-nil}
+use Rattle.std.proofs.Common.{◌≡◌, ℕ, List, [], ◌∷◌, ◌++◌, Option, sym, ap, ◌∙◌, subst, append_assoc}
 use Rattle.zre_outside.specs.Told.{AppendsFront, WritesThrough}
-use Rattle.zre_outside.proofs.GatheredText.{front_none, front_longer, through_none, through_then, through_front}
+use Rattle.zre_outside.proofs.GatheredText.{front_none, front_longer, through_then, through_front}
 use Rattle.zre_net.specs.declared.moves.Move.{Move}
 use Rattle.zre_net.specs.Comes.{history}
 use Rattle.zre_net.specs.Said.{said, told_by}

@@ -1,14 +1,14 @@
 //! The text of an answer.
 
-ghost use Rattle.std.specs.Prelude.{◌≡◌, ◌≤◌, ℕ, List, ◌++◌, Some, None, is_some, IfOk, IfErr, IfSome, OnOk, OnErr};
+ghost use Rattle.std.specs.Prelude.{◌≡◌, ◌≤◌, ℕ, List, ◌++◌, Some, None, is_some, IfOk, IfErr, IfSome, OnOk};
 ghost use Rattle.std.specs.Prelude.{IsErrOf};
 ghost use Rattle.zre_peer.specs.declared.event.Event.{Event as EventValue};
 ghost use Rattle.zre_outside.specs.Causes.{Rose};
-ghost use Rattle.zre_outside.specs.Told.{AppendsFront, WritesThrough};
 ghost use Rattle.zre_net.specs.Answer.{Refuses, bad_in, bad_move};
 ghost use Rattle.zre_net.specs.Reading.{bad_line as bad_line_of, lines_in, moves_of};
 ghost use Rattle.zre_net.specs.Said.{said};
 ghost use Rattle.zre_records.specs.simulate.Simulate.{told_line, told_lines, answer};
+ghost use Rattle.zre_records.specs.simulate.Writing.{Writes};
 
 use std::alloc::Global;
 use zre_commands::pump::push_bad_line;
@@ -47,11 +47,8 @@ fn push_refusal(out: &mut Octets, fault: ScheduleFault) -> Result<bool, OutOfMem
 
 // Writes the lines of events, whenever much is gathered.
 fn put_told<O: Sink>(told: &[(u8, Event)], text: &mut Octets, out: &mut O) -> Result<(), NextFault>
-    // What was written, and what is gathered; after an error a front of that.
-    ensures through { OnOk result
-        (WritesThrough text.old text.new (O.written out.old) (O.written out.new) (told_lines told.now)) }
-    ensures front { OnErr result
-        (AppendsFront (O.written out.old) (O.written out.new) (text.old ++ told_lines told.now)) }
+    // What was written, and what is gathered.
+    ensures text { Writes result text.old text.new (O.written out.old) (O.written out.new) (told_lines told.now) }
     // The count rises where the sink failed.
     ensures later { O.faults out.old ≤ O.faults out.new }
     ensures failed { IsErrOf result NextFault.Failed → Rose (O.faults out.old) (O.faults out.new) }
@@ -118,11 +115,9 @@ fn write_moves<O: Sink>(
     text: &mut Octets,
     out: &mut O,
 ) -> Result<(), NextFault>
-    // What was written, and what is gathered; after an error a front of that.
-    ensures through { OnOk result
-        (WritesThrough text.old text.new (O.written out.old) (O.written out.new) (told_lines (said moves.entry))) }
-    ensures front { OnErr result
-        (AppendsFront (O.written out.old) (O.written out.new) (text.old ++ told_lines (said moves.entry))) }
+    // What was written, and what is gathered.
+    ensures text { Writes result text.old text.new (O.written out.old) (O.written out.new)
+        (told_lines (said moves.entry)) }
     // The count rises where the sink failed.
     ensures later { O.faults out.old ≤ O.faults out.new }
     ensures failed { IsErrOf result NextFault.Failed → Rose (O.faults out.old) (O.faults out.new) }
@@ -140,11 +135,8 @@ fn write_moves<O: Sink>(
 
 // Writes the lines of events that were kept as text.
 fn write_kept<O: Sink>(kept: &[u8], gathered: &mut Octets, out: &mut O) -> Result<(), NextFault>
-    // What was written, and what is gathered; after an error a front of that.
-    ensures through { OnOk result
-        (WritesThrough gathered.old gathered.new (O.written out.old) (O.written out.new) kept.now) }
-    ensures front { OnErr result
-        (AppendsFront (O.written out.old) (O.written out.new) (gathered.old ++ kept.now)) }
+    // What was written, and what is gathered.
+    ensures text { Writes result gathered.old gathered.new (O.written out.old) (O.written out.new) kept.now }
     // The count rises where the sink failed.
     ensures later { O.faults out.old ≤ O.faults out.new }
     ensures failed { IsErrOf result NextFault.Failed → Rose (O.faults out.old) (O.faults out.new) }
@@ -161,13 +153,10 @@ fn write_told<O: Sink>(
     gathered: &mut Octets,
     out: &mut O,
 ) -> Result<(), NextFault>
-    // What was written, and what is gathered; after an error a front of that.
-    ensures through { IfSome kept (λ text. text ≡ told_lines (said (moves_of (lines_in schedule.now)))) → OnOk result
-        (WritesThrough gathered.old gathered.new (O.written out.old) (O.written out.new)
-        (told_lines (said (moves_of (lines_in schedule.now))))) }
-    ensures front { IfSome kept (λ text. text ≡ told_lines (said (moves_of (lines_in schedule.now)))) → OnErr result
-        (AppendsFront (O.written out.old) (O.written out.new)
-        (gathered.old ++ told_lines (said (moves_of (lines_in schedule.now))))) }
+    // What was written, and what is gathered.
+    ensures text { IfSome kept (λ text. text ≡ told_lines (said (moves_of (lines_in schedule.now)))) →
+        Writes result gathered.old gathered.new (O.written out.old) (O.written out.new)
+        (told_lines (said (moves_of (lines_in schedule.now)))) }
     // The count rises where the sink failed.
     ensures later { O.faults out.old ≤ O.faults out.new }
     ensures failed { IsErrOf result NextFault.Failed → Rose (O.faults out.old) (O.faults out.new) }
@@ -190,11 +179,9 @@ fn write_run<O: Sink>(
     requires { bad_line_of schedule.now ≡ None }
     // Whether a move can't be made.
     ensures bad { IfOk result (λ bad. bad ≡ is_some (bad_in schedule.now)) }
-    // What was written, and what is gathered; after an error a front of that.
-    ensures through { OnOk result
-        (WritesThrough gathered.old gathered.new (O.written out.old) (O.written out.new) (answer schedule.now)) }
-    ensures front { OnErr result
-        (AppendsFront (O.written out.old) (O.written out.new) (gathered.old ++ answer schedule.now)) }
+    // What was written, and what is gathered.
+    ensures text { Writes result gathered.old gathered.new (O.written out.old) (O.written out.new)
+        (answer schedule.now) }
     // The count rises where the sink failed.
     ensures later { O.faults out.old ≤ O.faults out.new }
     ensures failed { IsErrOf result NextFault.Failed → Rose (O.faults out.old) (O.faults out.new) }
@@ -218,11 +205,8 @@ pub(crate) fn write_answer<O: Sink>(
 ) -> Result<bool, NextFault>
     // Whether a line or a move is bad.
     ensures bad { IfOk result (λ bad. bad ≡ is_some (bad_in text.now)) }
-    // What was written, and what is gathered; after an error a front of that.
-    ensures through { OnOk result
-        (WritesThrough gathered.old gathered.new (O.written out.old) (O.written out.new) (answer text.now)) }
-    ensures front { OnErr result (AppendsFront (O.written out.old) (O.written out.new)
-        (gathered.old ++ answer text.now)) }
+    // What was written, and what is gathered.
+    ensures text { Writes result gathered.old gathered.new (O.written out.old) (O.written out.new) (answer text.now) }
     // The count rises where the sink failed.
     ensures later { O.faults out.old ≤ O.faults out.new }
     ensures failed { IsErrOf result NextFault.Failed → Rose (O.faults out.old) (O.faults out.new) }

@@ -1,4 +1,4 @@
-use Rattle.std.proofs.Common.{arith}
+use Rattle.std.proofs.Common.{arith, rules}
 use Rattle.zre_outside.proofs.Errors.{on_err}
 use Rattle.zre_records.proofs.simulate.Telling.{one_came, front_came, front_with}
 use Rattle.zre_records.proofs.simulate.answer.put_told.Goals as goal
@@ -9,9 +9,12 @@ loop-one-preserved g c = record {
   later = omega (arith, c.loop-one.invariant.later, c.write_much.ensures.later);
 }
 
-pub returns-in_err-push_told-clause-front : goal.returns-in_err-push_told-clause-front
-returns-in_err-push_told-clause-front g c = on_err c.from_residual.result (front_came _ _ _ _ c.args.told.now c.loop-one.one-index c.loop-one.invariant.came)
+pub returns-in_err-push_told-clause-text : goal.returns-in_err-push_told-clause-text
+returns-in_err-push_told-clause-text g c = (search rules, on_err c.from_residual.result (front_came _ _ _ _ c.args.told.now c.loop-one.one-index c.loop-one.invariant.came))
 
-pub returns-in_err-write_much-clause-front : goal.returns-in_err-write_much-clause-front
-returns-in_err-write_much-clause-front g c = on_err c.from_residual-in_err-write_much.result
-    (front_with _ _ _ _ _ _ c.args.told.now c.loop-one.one-index c.one-item.result c.loop-one-test.true c.one-item.is c.loop-one.invariant.came c.in_ok-push_told.ensures c.in_err-write_much.ensures.front)
+pub returns-in_err-write_much-clause-text : goal.returns-in_err-write_much-clause-text
+returns-in_err-write_much-clause-text g c = (
+  search rules,
+  on_err c.from_residual-in_err-write_much.result
+      (front_with _ _ _ _ _ _ c.args.told.now c.loop-one.one-index c.one-item.result c.loop-one-test.true c.one-item.is c.loop-one.invariant.came c.in_ok-push_told.ensures c.in_err-write_much.ensures.front),
+)
