@@ -108,54 +108,59 @@ first_of_all read broke how refused status writes records records' worlds worlds
 
 -- ---- the reads
 
--- the statuses of a refused read, and those that a chat never has
-abbrev is_early : Status → Bool
-is_early Usage = true
-is_early BadInput = true
-is_early ReadFault = true
-is_early s = false
+-- a status that the printing, the node's work or a start may come to: not that of a read or of a desk, nor one that only other
+-- commands have
+abbrev pub is_of_parts : Status → Bool
+is_of_parts Usage = false
+is_of_parts BadInput = false
+is_of_parts ReadFault = false
+is_of_parts DeskFault = false
+is_of_parts s = true
+
+pub isnt_of_parts : (s x : Status) → is_of_parts s ≡ true → is_of_parts x ≡ false → s ≢ x
+isnt_of_parts s x one other is = true≢false (sym one ∙ ap is_of_parts is ∙ other)
 
 late_rank : (n : ℕ) → 4 < n → n ≤ 4 → ⊥
 late_rank n more le = omega (arith, more, le)
 
-early_memory : (s : Status) → rank s ≤ rank ReadFault → is_early s ≡ false → s ≡ OutOfMemory
+early_memory : (s : Status) → rank s ≤ rank ReadFault → is_of_parts s ≡ true → s ≡ OutOfMemory
 early_memory OutOfMemory le late = refl
-early_memory Usage le late = absurd (true≢false late)
-early_memory BadInput le late = absurd (true≢false late)
-early_memory ReadFault le late = absurd (true≢false late)
+early_memory Usage le late = absurd (true≢false (sym late))
+early_memory BadInput le late = absurd (true≢false (sym late))
+early_memory ReadFault le late = absurd (true≢false (sym late))
+early_memory DeskFault le late = absurd (true≢false (sym late))
 early_memory Done le late = absurd (late_rank 11 (omega arith) le)
 early_memory WriteFault le late = absurd (late_rank 5 (omega arith) le)
 early_memory WorldFault le late = absurd (late_rank 6 (omega arith) le)
 early_memory NoThread le late = absurd (late_rank 7 (omega arith) le)
 early_memory TooLong le late = absurd (late_rank 8 (omega arith) le)
-early_memory DeskFault le late = absurd (late_rank 10 (omega arith) le)
 
-late_least : (s : Status) (ss : List Status) → is_early s ≡ false → is_early (least ss) ≡ false → is_early (least (s ∷ ss)) ≡ false
-late_least = least_holds (λ s. is_early s ≡ false)
+least_of_parts : (s : Status) (ss : List Status) → is_of_parts s ≡ true → is_of_parts (least ss) ≡ true → is_of_parts (least (s ∷ ss)) ≡ true
+least_of_parts = least_holds (λ s. is_of_parts s ≡ true)
 
-print_late : (broke : Option NextFault) → is_early (of_print broke) ≡ false
-print_late None = refl
-print_late (Some fault.Failed) = refl
-print_late (Some fault.OutOfMemory) = refl
+print_of_parts : (broke : Option NextFault) → is_of_parts (of_print broke) ≡ true
+print_of_parts None = refl
+print_of_parts (Some fault.Failed) = refl
+print_of_parts (Some fault.OutOfMemory) = refl
 
-work_late : (how : Ending) → is_early (of_work how) ≡ false
-work_late ending.Stopped = refl
-work_late ending.WorldFault = refl
-work_late ending.RecordFault = refl
-work_late ending.TooLong = refl
-work_late ending.OutOfMemory = refl
+work_of_parts : (how : Ending) → is_of_parts (of_work how) ≡ true
+work_of_parts ending.Stopped = refl
+work_of_parts ending.WorldFault = refl
+work_of_parts ending.RecordFault = refl
+work_of_parts ending.TooLong = refl
+work_of_parts ending.OutOfMemory = refl
 
-thread_late : (refused : Bool) → is_early (of_thread refused) ≡ false
-thread_late true = refl
-thread_late false = refl
+thread_of_parts : (refused : Bool) → is_of_parts (of_thread refused) ≡ true
+thread_of_parts true = refl
+thread_of_parts false = refl
 
-rest_late : (broke : Option NextFault) (how : Ending) (refused : Bool) → is_early (least (of_print broke ∷ of_work how ∷ of_thread refused ∷ [])) ≡ false
-rest_late broke how refused = rest_holds (λ s. is_early s ≡ false) broke how refused (print_late broke) (work_late how) (thread_late refused) refl
+pub rest_of_parts : (broke : Option NextFault) (how : Ending) (refused : Bool) → is_of_parts (least (of_print broke ∷ of_work how ∷ of_thread refused ∷ [])) ≡ true
+rest_of_parts broke how refused = rest_holds (λ s. is_of_parts s ≡ true) broke how refused (print_of_parts broke) (work_of_parts how) (thread_of_parts refused) refl
 
-late_isnt : (s : Status) → is_early s ≡ false → s ≢ ReadFault
-late_isnt s late is = true≢false (sym (ap is_early is) ∙ late)
+late_isnt : (s : Status) → is_of_parts s ≡ true → s ≢ ReadFault
+late_isnt s late = isnt_of_parts s ReadFault late refl
 
-first_read : (rest : List Status) → is_early (least rest) ≡ false → (least (ReadFault ∷ rest) ≡ ReadFault) ⊎ (least (ReadFault ∷ rest) ≡ OutOfMemory)
+first_read : (rest : List Status) → is_of_parts (least rest) ≡ true → (least (ReadFault ∷ rest) ≡ ReadFault) ⊎ (least (ReadFault ∷ rest) ≡ OutOfMemory)
 first_read rest late =
     least_by (λ x. (x ≡ ReadFault) ⊎ (x ≡ OutOfMemory)) ReadFault rest (λ e. inl refl)
     (λ e. inr (early_memory (least rest) (before (rank (least rest)) (leb-false (rank ReadFault) (rank (least rest)) e)) late))
@@ -163,18 +168,18 @@ first_read rest late =
     before : (n : ℕ) → n < 4 → n ≤ 4
     before n less = omega (arith, less)
 
-unread_so : (status read : Status) (rest : List Status) (a b : Option Refusals) → status ≡ least (read ∷ rest) → is_early read ≡ false → is_early (least rest) ≡ false → RefusesNone a b → IsReadSo status a b
-unread_so status read rest a b is one late none = inl (none, late_isnt status (ap is_early is ∙ late_least read rest one late))
+unread_so : (status read : Status) (rest : List Status) (a b : Option Refusals) → status ≡ least (read ∷ rest) → is_of_parts read ≡ true → is_of_parts (least rest) ≡ true → RefusesNone a b → IsReadSo status a b
+unread_so status read rest a b is one late none = inl (none, late_isnt status (ap is_of_parts is ∙ least_of_parts read rest one late))
 
 pub reads_so : (e : InputEnd) (broke : Option NextFault) (how : Ending) (refused : Bool) (status : Status) (a b : Option Refusals)
     → status ≡ least (of_read e ∷ of_print broke ∷ of_work how ∷ of_thread refused ∷ []) → EndsByRefusal e a b → IsReadSo status a b
 reads_so end.ReadFault broke how refused status a b is last =
-    subst (λ (s : Status). IsReadSo s a b) (sym is) (inr (last, first_read (of_print broke ∷ of_work how ∷ of_thread refused ∷ []) (rest_late broke how refused)))
-reads_so end.Quit broke how refused status a b is none = unread_so status Done (of_print broke ∷ of_work how ∷ of_thread refused ∷ []) a b is refl (rest_late broke how refused) none
-reads_so end.AtEnd broke how refused status a b is none = unread_so status Done (of_print broke ∷ of_work how ∷ of_thread refused ∷ []) a b is refl (rest_late broke how refused) none
-reads_so end.Over broke how refused status a b is none = unread_so status Done (of_print broke ∷ of_work how ∷ of_thread refused ∷ []) a b is refl (rest_late broke how refused) none
-reads_so end.TooLong broke how refused status a b is none = unread_so status TooLong (of_print broke ∷ of_work how ∷ of_thread refused ∷ []) a b is refl (rest_late broke how refused) none
-reads_so end.OutOfMemory broke how refused status a b is none = unread_so status OutOfMemory (of_print broke ∷ of_work how ∷ of_thread refused ∷ []) a b is refl (rest_late broke how refused) none
+    subst (λ (s : Status). IsReadSo s a b) (sym is) (inr (last, first_read (of_print broke ∷ of_work how ∷ of_thread refused ∷ []) (rest_of_parts broke how refused)))
+reads_so end.Quit broke how refused status a b is none = unread_so status Done (of_print broke ∷ of_work how ∷ of_thread refused ∷ []) a b is refl (rest_of_parts broke how refused) none
+reads_so end.AtEnd broke how refused status a b is none = unread_so status Done (of_print broke ∷ of_work how ∷ of_thread refused ∷ []) a b is refl (rest_of_parts broke how refused) none
+reads_so end.Over broke how refused status a b is none = unread_so status Done (of_print broke ∷ of_work how ∷ of_thread refused ∷ []) a b is refl (rest_of_parts broke how refused) none
+reads_so end.TooLong broke how refused status a b is none = unread_so status TooLong (of_print broke ∷ of_work how ∷ of_thread refused ∷ []) a b is refl (rest_of_parts broke how refused) none
+reads_so end.OutOfMemory broke how refused status a b is none = unread_so status OutOfMemory (of_print broke ∷ of_work how ∷ of_thread refused ∷ []) a b is refl (rest_of_parts broke how refused) none
 
 pub thread_unread : NoThread ≢ ReadFault
 thread_unread = late_isnt NoThread refl

@@ -1,5 +1,5 @@
 -- What a status says of the parts whose ends it is made of: the reading, the printing, the node's work and the starts.
-use Rattle.std.proofs.Common.{◌≡◌, ◌≢◌, Bool, true, false, List, [], ◌∷◌, Option, Some, None, refl, sym, ap, ◌∙◌, ⊎_elim}
+use Rattle.std.proofs.Common.{◌≡◌, ◌≢◌, Bool, true, false, List, [], ◌∷◌, Option, Some, None, refl, sym, ap, ◌∙◌}
 use Rattle.std.specs.Prelude.{◌⊎◌}
 use mathlib.Core.Logic.{inl, inr}
 use Rattle.zre_outside.specs.declared.sink.NextFault.{NextFault}
@@ -11,25 +11,10 @@ use Rattle.zre_commands.specs.declared.pump.status.Status.TheVariants.{Done, Rea
 use Rattle.zre_console.specs.declared.reader.ending.InputEnd.{InputEnd}
 use Rattle.zre_console.specs.declared.reader.ending.InputEnd.TheVariants as end
 use Rattle.zre_console.specs.Statuses.{least, of_read, of_print, of_work, of_thread}
+use Rattle.zre_console.proofs.First.{isnt_of_parts, rest_of_parts}
 use Rattle.zre_console.proofs.LeastStatus.{memory_here, memory_after, done_here, done_after, one_of}
 
--- nothing but the reading fails by a read
-print_read : (f : Option NextFault) → of_print f ≢ ReadFault
-print_read None is = cc
-print_read (Some fault.Failed) is = cc
-print_read (Some fault.OutOfMemory) is = cc
-
-work_read : (how : Ending) → of_work how ≢ ReadFault
-work_read ending.Stopped is = cc
-work_read ending.WorldFault is = cc
-work_read ending.RecordFault is = cc
-work_read ending.TooLong is = cc
-work_read ending.OutOfMemory is = cc
-
-thread_read : (refused : Bool) → least (of_thread refused ∷ []) ≢ ReadFault
-thread_read true is = cc
-thread_read false is = cc
-
+-- the reading fails by a read
 pub read_ended : (e : InputEnd) → of_read e ≡ ReadFault → e ≡ end.ReadFault
 read_ended end.Quit is = absurd (cc)
 read_ended end.AtEnd is = absurd (cc)
@@ -87,12 +72,9 @@ module _ (read : Status) (broke : Option NextFault) (how : Ending) (refused : Bo
   pub read_failed : least statuses ≡ ReadFault → read ≡ ReadFault
   read_failed is = by (one_of read second ReadFault is)
     where
-      third_isnt : least third ≢ ReadFault
-      third_isnt e = ⊎_elim (work_read how) (λ (x : least fourth ≡ ReadFault). thread_read refused x) (one_of (of_work how) fourth ReadFault e)
-
       by : (read ≡ ReadFault) ⊎ (least second ≡ ReadFault) → read ≡ ReadFault
       by (inl e) = e
-      by (inr e) = absurd (⊎_elim (print_read broke) third_isnt (one_of (of_print broke) third ReadFault e))
+      by (inr e) = absurd (isnt_of_parts (least second) ReadFault (rest_of_parts broke how refused) refl e)
 
   pub both : least statuses ≢ OutOfMemory → (how ≢ ending.OutOfMemory) × (broke ≢ Some fault.OutOfMemory)
   both isnt = (memory isnt, page isnt)

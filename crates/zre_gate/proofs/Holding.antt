@@ -1,6 +1,6 @@
 -- A gate whose threads were started.
-use Rattle.std.proofs.Common.{◌≡◌, ◌≢◌, ℕ, ◌≤◌, ◌<◌, Bool, true, false, true≢false, cond, List, [], ◌∷◌, ◌++◌, map, length, Option, Some, None, refl, sym, ap, ◌∙◌, subst, append_assoc, append-nil}
-use Rattle.std.specs.Prelude.{◌⊎◌, nat_le, All, Contains}
+use Rattle.std.proofs.Common.{◌≡◌, ◌≢◌, ℕ, ◌≤◌, ◌<◌, Bool, true, false, true≢false, List, [], ◌∷◌, ◌++◌, map, length, Option, Some, None, refl, sym, ap, ◌∙◌, subst, append_assoc, append-nil}
+use Rattle.std.specs.Prelude.{◌⊎◌, All, Contains}
 use mathlib.Core.HLevel.{⊥_prop}
 use mathlib.Core.Logic.{inl, inr}
 use mathlib.Core.List.{IsPrefix}
@@ -37,8 +37,8 @@ use Rattle.zre_console.specs.printer.Asking.{asked, asker_of}
 use Rattle.zre_console.specs.printer.Printing.{HasPrinted}
 use Rattle.zre_console.specs.Lived.{Seen}
 use Rattle.zre_console.specs.Stages.{Prepared}
-use Rattle.zre_console.specs.Statuses.{rank, least, of_print, of_work, of_thread}
-use Rattle.zre_console.proofs.First.{least_holds, rest_holds}
+use Rattle.zre_console.specs.Statuses.{least, of_print, of_work, of_thread}
+use Rattle.zre_console.proofs.First.{least_holds, rest_holds, isnt_of_parts, rest_of_parts}
 use Rattle.zre_console.proofs.SecondCaller.{asked_few, asker_put}
 use Rattle.zre_console.proofs.NodeThread as living
 use Rattle.zre_console.proofs.Popped.{all_under}
@@ -53,15 +53,6 @@ use Rattle.zre_gate.specs.ClientLists.{NewClient, number_of, new_client_of}
 use Rattle.zre_gate.proofs.Answering.{nat_prop}
 use Rattle.zre_gate.proofs.Clients.{client_for, plain_commands, is_client, is_free, is_whole, is_long}
 use Rattle.zre_gate.proofs.Merged.{num, IsPlain, its_named, quit_split, quits_front, map_split, nothing_mapped, named_front, is_interleaved, named_all, none_quit, all_last}
-
--- ---- the first of several statuses
-
-least_isnt : (x : Status) (xs : List Status) → x ≢ DeskFault → least xs ≢ DeskFault → least (x ∷ xs) ≢ DeskFault
-least_isnt x xs first rest is = by (nat_le (rank x) (rank (least xs))) refl
-  where
-    by : (b : Bool) → nat_le (rank x) (rank (least xs)) ≡ b → ⊥
-    by true e = first (sym (ap (λ b. cond b x (least xs)) e) ∙ is)
-    by false e = rest (sym (ap (λ b. cond b x (least xs)) e) ∙ is)
 
 -- ---- lists of clients
 
@@ -221,29 +212,13 @@ module _ (g : Config) (start : Start) (name : Option (List ℕ)) (keep : Bool) (
 
     -- none of these is the desk's
     isnt_desk : status ≢ DeskFault
-    isnt_desk = least_isnt close (of_print broke ∷ of_work how ∷ of_thread refused ∷ []) (closes gathers.ends.cause)
-        (least_isnt (of_print broke) (of_work how ∷ of_thread refused ∷ []) (prints broke) (least_isnt (of_work how) (of_thread refused ∷ []) (works how) (least_isnt (of_thread refused) [] (threads refused) (λ e. cc))))
+    isnt_desk = least_holds (λ x. x ≢ DeskFault) close (of_print broke ∷ of_work how ∷ of_thread refused ∷ []) (closes gathers.ends.cause)
+        (isnt_of_parts (least (of_print broke ∷ of_work how ∷ of_thread refused ∷ [])) DeskFault (rest_of_parts broke how refused) refl)
       where
         closes : (close ≡ Done) ⊎ ((close ≡ OutOfMemory) ⊎ ((close ≡ TooLong) × (x : Served) × Contains S x × (x.end ≡ end.TooLong))) → close ≢ DeskFault
         closes (inl is) e = (let y : Done ≡ DeskFault = sym is ∙ e in cc)
         closes (inr (inl is)) e = (let y : OutOfMemory ≡ DeskFault = sym is ∙ e in cc)
         closes (inr (inr (is, x, there, too))) e = (let y : TooLong ≡ DeskFault = sym is ∙ e in cc)
-
-        prints : (f : Option NextFault) → of_print f ≢ DeskFault
-        prints None e = cc
-        prints (Some fault.Failed) e = cc
-        prints (Some fault.OutOfMemory) e = cc
-
-        works : (e : Ending) → of_work e ≢ DeskFault
-        works ending.Stopped e = cc
-        works ending.WorldFault e = cc
-        works ending.RecordFault e = cc
-        works ending.TooLong e = cc
-        works ending.OutOfMemory e = cc
-
-        threads : (b : Bool) → of_thread b ≢ DeskFault
-        threads true e = cc
-        threads false e = cc
 
     their_afters : length afters ≡ many
     their_afters = ap length (sym gathers.are_after) ∙ length-map S clients.after_of ∙ sym (length-map S new_client_of) ∙ ap length gathers.are_new_clients ∙ are_many
