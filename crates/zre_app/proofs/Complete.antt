@@ -7,8 +7,7 @@ use Rattle.zre_commands.specs.pump.Meaning.{Meaning, KeepsRefusing, whole_text}
 use Rattle.zre_commands.specs.pump.Outcome.{Outcome}
 use Rattle.zre_commands.proofs.Refusing.{show_refuses, follow_refuses}
 use Rattle.zre_records.proofs.Refusing.{capture_refuses, audit_refuses, simulate_refuses}
-use Rattle.zre_console.specs.Lived.{Seen}
-use Rattle.zre_chat.specs.Chat.{IsCaused}
+use Rattle.zre_console.specs.Lived.{Seen, HasCause}
 use Rattle.zre_capture.specs.declared.format.Format.TheVariants.{First, Second}
 use Rattle.zre_app.specs.declared.command.Command.{Command}
 use Rattle.zre_app.specs.declared.command.Command.TheVariants.{Plain, Chat}
@@ -96,20 +95,18 @@ abbrev pub Spares : Status → Type 0
 Spares status = (status ≡ Done) ⊎ (status ≡ OutOfMemory)
 
 -- nothing else has a cause
-spared : (x : Status) (limit : ℕ) (octets : List ℕ) (turns : ℕ) (stopped : Bool) (s t : Seen)
-    → IsCaused x limit octets turns stopped s t → NoneRose s t → length octets < limit → turns < limit → Spares x
-spared Done limit octets turns stopped s t cause none few early = inl refl
-spared OutOfMemory limit octets turns stopped s t cause none few early = inr refl
-spared ReadFault limit octets turns stopped s t cause none few early = absurd (none.read cause.0)
-spared WriteFault limit octets turns stopped s t cause none few early =
+pub spared : (x : Status) (reads long desk : Type 0) (s t : Seen) → HasCause x reads long desk s t → NoneRose s t → ¬ reads → ¬ long → ¬ desk → Spares x
+spared Done reads long desk s t cause none read short held = inl refl
+spared OutOfMemory reads long desk s t cause none read short held = inr refl
+spared ReadFault reads long desk s t cause none read short held = absurd (read cause)
+spared WriteFault reads long desk s t cause none read short held =
     elim (cause) [ inl rose ↦ absurd (none.write rose) | inr rose ↦ absurd (none.recorded rose) ]
-spared WorldFault limit octets turns stopped s t cause none few early = absurd (none.world cause)
-spared NoThread limit octets turns stopped s t cause none few early = absurd (none.thread cause)
-spared TooLong limit octets turns stopped s t cause none few early =
-    elim (cause) [ inl many ↦ absurd (omega (arith, many.0, few)) | inr late ↦ absurd (omega (arith, late.0, early)) ]
-spared Usage limit octets turns stopped s t cause none few early = absurd cause
-spared BadInput limit octets turns stopped s t cause none few early = absurd cause
-spared DeskFault limit octets turns stopped s t cause none few early = absurd cause
+spared WorldFault reads long desk s t cause none read short held = absurd (none.world cause)
+spared NoThread reads long desk s t cause none read short held = absurd (none.thread cause)
+spared TooLong reads long desk s t cause none read short held = absurd (short cause)
+spared DeskFault reads long desk s t cause none read short held = absurd (held cause)
+spared Usage reads long desk s t cause none read short held = absurd cause
+spared BadInput reads long desk s t cause none read short held = absurd cause
 
 pub well_or_short : (status : Status) (all : Type 0) → Spares status → (status ≡ Done → all) → WellOrShort status all
 well_or_short status all (inl done) whole = inl (done, whole done)
@@ -120,7 +117,8 @@ completes None limit status s t does = tt
 completes (Some (Plain p)) limit status s t does = plain_completes p limit status (streams_of s) (streams_of t) does
 completes (Some (Chat c)) limit status s t does = λ chat none few early.
     well_or_short status _
-    (spared status limit chat.octets chat.lived.turns _ s t chat.caused none few early)
+    (spared status _ _ _ s t chat.caused none (λ read. none.read read.0)
+    (λ long. elim (long) [ inl many ↦ omega (arith, many.0, few) | inr late ↦ omega (arith, late.0, early) ]) (λ z. z))
     (λ done. chat.wrote.whole (inl done))
 
 -- any call does

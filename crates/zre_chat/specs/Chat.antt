@@ -1,5 +1,5 @@
 -- What a chat comes to.
-use Rattle.std.specs.Prelude.{◌≡◌, ◌≢◌, ◌⊎◌, ℕ, ◌≤◌, ◌<◌, Bool, true, false, List, length, Option, ⊤}
+use Rattle.std.specs.Prelude.{◌≡◌, ◌≢◌, ◌⊎◌, ℕ, ◌≤◌, ◌<◌, Bool, true, false, List, length, Option}
 use mathlib.Core.List.{IsPrefix}
 use Rattle.std.specs.List.{list_any}
 use Rattle.std.specs.Io.KnownBytes.{IsAtEnd}
@@ -11,29 +11,17 @@ use Rattle.zre_values.specs.declared.settings.Settings.{Settings as Config}
 use Rattle.zre_journal.specs.Events.{chronicle}
 use Rattle.zre_journal.specs.Happens.{has_stopped}
 use Rattle.zre_commands.specs.declared.pump.status.Status.{Status}
-use Rattle.zre_commands.specs.declared.pump.status.Status.TheVariants.{Done, Usage, BadInput, ReadFault, WriteFault}
-use Rattle.zre_commands.specs.declared.pump.status.Status.TheVariants.{WorldFault, NoThread, TooLong, OutOfMemory}
-use Rattle.zre_commands.specs.declared.pump.status.Status.TheVariants.{DeskFault}
+use Rattle.zre_commands.specs.declared.pump.status.Status.TheVariants.{Done, ReadFault}
 use Rattle.zre_console.specs.lines.Orders.{is_quit, typed, orders}
 use Rattle.zre_console.specs.reader.Putting.{IsShort}
 use Rattle.zre_console.specs.reader.Reading.{IsReadOn, BreaksOff}
-use Rattle.zre_console.specs.Lived.{Seen, Lived, Wrote, Captured}
+use Rattle.zre_console.specs.Lived.{Seen, HasCause, Lived, Wrote, Captured}
 
 -- what each status needs: a count that rose, or as many octets or turns as the limit and more due
 abbrev pub IsCaused : Status → (limit : ℕ) (octets : List ℕ) (turns : ℕ) (stopped : Bool) → Seen → Seen → Type 0
-IsCaused Done limit octets turns stopped s t = ⊤
-IsCaused ReadFault limit octets turns stopped s t =
-    Rose s.read_faults t.read_faults × (length octets < limit) × IsReadOn octets
-IsCaused WriteFault limit octets turns stopped s t =
-    Rose s.write_faults t.write_faults ⊎ Rose s.record_faults t.record_faults
-IsCaused WorldFault limit octets turns stopped s t = Rose s.world_faults t.world_faults
-IsCaused NoThread limit octets turns stopped s t = Rose s.refusals t.refusals
-IsCaused TooLong limit octets turns stopped s t =
-    ((length octets ≡ limit) × IsReadOn octets) ⊎ ((turns ≡ limit) × (stopped ≡ false))
-IsCaused OutOfMemory limit octets turns stopped s t = ⊤
-IsCaused Usage limit octets turns stopped s t = ⊥
-IsCaused BadInput limit octets turns stopped s t = ⊥
-IsCaused DeskFault limit octets turns stopped s t = ⊥
+IsCaused status limit octets turns stopped s t = HasCause status
+    (Rose s.read_faults t.read_faults × (length octets < limit) × IsReadOn octets)
+    (((length octets ≡ limit) × IsReadOn octets) ⊎ ((turns ≡ limit) × (stopped ≡ false))) ⊥ s t
 
 -- why no more of the input was read: it was at its end within the limit, a line is a quit, or the world stopped the
 -- node first, before as many octets as the limit were taken or before all commands were handed in

@@ -1,6 +1,6 @@
 -- What comes of a node in a thread of its own, whoever puts its commands.
 use Rattle.std.specs.Prelude.{◌≡◌, ◌≢◌, ◌⊎◌, ℕ, ◌+◌, ◌≤◌, Bool, true, false, List, [], ◌++◌, length, All}
-use Rattle.std.specs.Prelude.{Option, Some, option_map}
+use Rattle.std.specs.Prelude.{Option, Some, option_map, ⊤}
 use mathlib.Core.List.{Sublist}
 use Rattle.std.specs.List.{list_any}
 use Rattle.std.specs.Io.KnownBytes.{Keeps, Appends}
@@ -23,7 +23,9 @@ use Rattle.zre_capture.specs.Lines.{IsEntry}
 use Rattle.zre_capture.specs.declared.format.Format.TheVariants.{Second}
 use Rattle.zre_actor.specs.Work.{went, AreDeeds, acts_of, done_by, AllGo}
 use Rattle.zre_commands.specs.declared.pump.status.Status.{Status}
-use Rattle.zre_commands.specs.declared.pump.status.Status.TheVariants.{Done, OutOfMemory}
+use Rattle.zre_commands.specs.declared.pump.status.Status.TheVariants.{Done, Usage, BadInput, ReadFault, WriteFault}
+use Rattle.zre_commands.specs.declared.pump.status.Status.TheVariants.{WorldFault, NoThread, TooLong, OutOfMemory}
+use Rattle.zre_commands.specs.declared.pump.status.Status.TheVariants.{DeskFault}
 
 -- what is seen of all that a chat or a gate works with, at one moment; of a gate nothing of an input
 pub record Seen : Type 0 where
@@ -59,6 +61,20 @@ seen left taken reads told worlds written writes kept named records refusals = r
   record_faults = records;
   refusals = refusals;
 }
+
+-- what each status needs: a count that rose, or what is said here of the reads, of what was too long and of a desk
+abbrev pub HasCause : Status → (reads long desk : Type 0) → Seen → Seen → Type 0
+HasCause Done reads long desk s t = ⊤
+HasCause ReadFault reads long desk s t = reads
+HasCause WriteFault reads long desk s t =
+    Rose s.write_faults t.write_faults ⊎ Rose s.record_faults t.record_faults
+HasCause WorldFault reads long desk s t = Rose s.world_faults t.world_faults
+HasCause NoThread reads long desk s t = Rose s.refusals t.refusals
+HasCause TooLong reads long desk s t = long
+HasCause OutOfMemory reads long desk s t = ⊤
+HasCause DeskFault reads long desk s t = desk
+HasCause Usage reads long desk s t = ⊥
+HasCause BadInput reads long desk s t = ⊥
 
 -- all went well, or memory didn't run out and this count of faults didn't rise
 abbrev pub IsSpared : Status → (rose : Type 0) → Type 0

@@ -1,6 +1,6 @@
 -- What a gate comes to.
 use Rattle.std.specs.Prelude.{◌≡◌, ◌⊎◌, ℕ, ◌≤◌, ◌<◌, Bool, true, false, if◌then◌else◌, List, [], ◌++◌, map, length}
-use Rattle.std.specs.Prelude.{All, Contains, Option, Some, None, option_map, ⊤}
+use Rattle.std.specs.Prelude.{All, Contains, Option, Some, None, option_map}
 use mathlib.Core.List.{IsPrefix}
 use Rattle.std.specs.List.{list_any}
 use Rattle.std.specs.Io.KnownBytes.{Appends, IsAtEnd}
@@ -19,10 +19,8 @@ use Rattle.zre_console.specs.lines.Orders.{is_quit, typed, asked}
 use Rattle.zre_console.specs.reader.Putting.{IsClose, IsShort}
 use Rattle.zre_console.specs.reader.Reading.{IsReadOn}
 use Rattle.zre_commands.specs.declared.pump.status.Status.{Status}
-use Rattle.zre_commands.specs.declared.pump.status.Status.TheVariants.{Done, Usage, BadInput, ReadFault, WriteFault}
-use Rattle.zre_commands.specs.declared.pump.status.Status.TheVariants.{WorldFault, NoThread, TooLong, OutOfMemory}
-use Rattle.zre_commands.specs.declared.pump.status.Status.TheVariants.{DeskFault}
-use Rattle.zre_console.specs.Lived.{Seen, seen, Lived, Wrote, Captured}
+use Rattle.zre_commands.specs.declared.pump.status.Status.TheVariants.{Done, DeskFault}
+use Rattle.zre_console.specs.Lived.{Seen, seen, HasCause, Lived, Wrote, Captured}
 use Rattle.zre_gate.specs.Clients.{ClientRow}
 use Rattle.zre_gate.specs.declared.gate.Gate.{Gate}
 use Rattle.zre_gate.specs.Interleaving.{IsInterleaving}
@@ -82,18 +80,8 @@ IsLong limit c = (length c.octets ≡ limit) × IsReadOn c.octets
 -- what each status needs: a count that rose, or as many octets or turns as the limit and more due
 abbrev pub IsCaused : Status → (limit : ℕ) (clients : List Client) (turns : ℕ) (stopped : Bool) → Seen → Seen
     → (desk : Type 0) → Type 0
-IsCaused Done limit clients turns stopped s t desk = ⊤
-IsCaused WriteFault limit clients turns stopped s t desk =
-    Rose s.write_faults t.write_faults ⊎ Rose s.record_faults t.record_faults
-IsCaused WorldFault limit clients turns stopped s t desk = Rose s.world_faults t.world_faults
-IsCaused NoThread limit clients turns stopped s t desk = Rose s.refusals t.refusals
-IsCaused TooLong limit clients turns stopped s t desk =
-    ((c : Client) × Contains clients c × IsLong limit c) ⊎ ((turns ≡ limit) × (stopped ≡ false))
-IsCaused OutOfMemory limit clients turns stopped s t desk = ⊤
-IsCaused DeskFault limit clients turns stopped s t desk = desk
-IsCaused Usage limit clients turns stopped s t desk = ⊥
-IsCaused BadInput limit clients turns stopped s t desk = ⊥
-IsCaused ReadFault limit clients turns stopped s t desk = ⊥
+IsCaused status limit clients turns stopped s t desk = HasCause status ⊥
+    (((c : Client) × Contains clients c × IsLong limit c) ⊎ ((turns ≡ limit) × (stopped ≡ false))) desk s t
 
 -- the commands that were handed in are, but for a quit at their end, an interleaving of the clients' own; where all
 -- went well and a quit stands there, all that the clients asked for was handed in
