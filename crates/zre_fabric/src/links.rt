@@ -3,7 +3,7 @@
 use crate::beacons::address;
 use crate::entry_source::{EntrySource, token_of};
 use crate::link::{Due, TcpLink};
-use crate::source_queue::SourceQueue;
+use crate::source_queue::{SourceQueue, Weight};
 use mio::net::TcpStream;
 use mio::{Interest, Registry};
 use std::alloc::Global;
@@ -227,7 +227,7 @@ impl Links {
             link.give_up();
             if !link.is_queued {
                 link.is_queued = true;
-                queue.push_light(EntrySource::Link(number))?;
+                queue.push(EntrySource::Link(number), Weight::Light)?;
             }
         }
         Ok(())

@@ -16,7 +16,7 @@ use crate::polled::Polled;
 use crate::prepared::{Reserved, listen};
 use crate::read_buffer::ReadBuffer;
 use crate::shares::Shares;
-use crate::source_queue::SourceQueue;
+use crate::source_queue::{SourceQueue, Weight};
 use mio::net::{TcpListener, TcpStream};
 use mio::{Interest, Registry, Token};
 use std::alloc::Global;
@@ -164,7 +164,7 @@ impl Sockets {
             Some(is_queued) if !*is_queued => *is_queued = true,
             _ => return Ok(()),
         }
-        self.queue.push_light(source)
+        self.queue.push(source, Weight::Light)
     }
 
     /// The next entry of a source that may have one. Each is looked at once.
@@ -206,12 +206,12 @@ impl Sockets {
                 Ok(Some(input))
             }
             Polled::Again => {
-                self.queue.push_heavy(source).map_err(no_memory)?;
+                self.queue.push(source, Weight::Heavy).map_err(no_memory)?;
                 Ok(None)
             }
             Polled::Dropped => {
                 self.has_dropped = true;
-                self.queue.push_heavy(source).map_err(no_memory)?;
+                self.queue.push(source, Weight::Heavy).map_err(no_memory)?;
                 Ok(None)
             }
             Polled::Rest => {
@@ -232,19 +232,18 @@ impl Sockets {
 
     // A source has given so many octets, and may have more.
     fn keep(&mut self, source: EntrySource, octets: u64) -> Result<(), NetworkFault> {
-        let is_heavy = match self.used_by(source) {
+        let weight = match self.used_by(source) {
             Some(used) => {
                 *used = used.saturating_add(octets);
-                *used >= HEAVY
+                if *used < HEAVY {
+                    Weight::Light
+                } else {
+                    Weight::Heavy
+                }
             }
-            None => false,
+            None => Weight::Light,
         };
-        let kept = if is_heavy {
-            self.queue.push_heavy(source)
-        } else {
-            self.queue.push_light(source)
-        };
-        kept.map_err(no_memory)
+        self.queue.push(source, weight).map_err(no_memory)
     }
 
     // A source has nothing.

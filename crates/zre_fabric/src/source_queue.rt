@@ -1,7 +1,7 @@
 //! The sources that may have something to say.
 
 ghost use Rattle.std.specs.Prelude.{◌≡◌, ◌++◌, ◌∷◌, [], ◌||◌, true, false, is_some, option_to_list, OnOk, OnErr};
-ghost use Rattle.zre_fabric.specs.Queues.{has_some, is_lights, row_after};
+ghost use Rattle.zre_fabric.specs.Queues.{has_some, is_lights, row_after, queue_of, other};
 
 use crate::entry_source::EntrySource;
 use crate::turns::Turns;
@@ -9,7 +9,14 @@ use std::alloc::Global;
 use std::collections::VecDeque;
 use zre_values::OutOfMemory;
 
-/// Two queues: of sources that have given little since they last had nothing, and of those that have given much.
+/// How much a source has given since it last had nothing.
+#[derive(Clone, Copy)]
+pub(crate) enum Weight {
+    Light,
+    Heavy,
+}
+
+/// Two queues: of light sources and of heavy ones.
 #[derive(Drop)]
 pub(crate) struct SourceQueue {
     light: VecDeque<EntrySource>,
@@ -47,21 +54,17 @@ impl SourceQueue {
         Ok(())
     }
 
-    pub(crate) fn push_light(&mut self, source: EntrySource) -> Result<(), OutOfMemory>
-        ensures ok { OnOk result (self.new.light.items ≡ self.old.light.items ++ source ∷ []) }
-        ensures err { OnErr result (self.new.light.items ≡ self.old.light.items) }
-        ensures same { (self.new.heavy ≡ self.old.heavy) × (self.new.turns ≡ self.old.turns) }
+    /// A source takes the last place of its queue.
+    pub(crate) fn push(&mut self, source: EntrySource, weight: Weight) -> Result<(), OutOfMemory>
+        ensures ok { OnOk result ((queue_of weight self.new).items ≡ (queue_of weight self.old).items ++ source ∷ []) }
+        ensures err { OnErr result ((queue_of weight self.new).items ≡ (queue_of weight self.old).items) }
+        ensures same { (queue_of (other weight) self.new ≡ queue_of (other weight) self.old)
+            × (self.new.turns ≡ self.old.turns) }
     {
-        self.light.push_back(source)?;
-        Ok(())
-    }
-
-    pub(crate) fn push_heavy(&mut self, source: EntrySource) -> Result<(), OutOfMemory>
-        ensures ok { OnOk result (self.new.heavy.items ≡ self.old.heavy.items ++ source ∷ []) }
-        ensures err { OnErr result (self.new.heavy.items ≡ self.old.heavy.items) }
-        ensures same { (self.new.light ≡ self.old.light) × (self.new.turns ≡ self.old.turns) }
-    {
-        self.heavy.push_back(source)?;
+        match weight {
+            Weight::Light => self.light.push_back(source)?,
+            Weight::Heavy => self.heavy.push_back(source)?,
+        }
         Ok(())
     }
 
