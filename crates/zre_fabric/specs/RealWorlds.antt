@@ -35,8 +35,8 @@ commands_of w = w.fabric.row.commands
 abbrev pub octets_of : {R : Type 0} → RealWorld R → ℕ
 octets_of w = w.fabric.row.octets
 
--- neither the reading of its clock nor its row changed
-abbrev pub Waits : {R : Type 0} → RealWorld R → RealWorld R → Type 0
-Waits old new =
-    (reading_of new ≡ reading_of old) × (entries_of new ≡ entries_of old) × (commands_of new ≡ commands_of old)
-    × (octets_of new ≡ octets_of old)
+-- neither the last turn, nor a count, nor the reading of its clock changed
+abbrev pub IsAsBefore : {R : Type 0} → RealWorld R → RealWorld R → Type 0
+IsAsBefore old new =
+    (has_looked new ≡ has_looked old) × (faults_of new ≡ faults_of old) × (reading_of new ≡ reading_of old)
+    × (entries_of new ≡ entries_of old) × (commands_of new ≡ commands_of old) × (octets_of new ≡ octets_of old)

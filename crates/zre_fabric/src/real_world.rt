@@ -107,16 +107,13 @@ fn raise(faults: u64, fault: NextFault) -> u64
 }
 
 impl<R: Net> RealWorld<R> {
-    ghost use Rattle.zre_fabric.specs.RealWorlds.{has_looked, faults_of, reason_of, Waits};
+    ghost use Rattle.zre_fabric.specs.RealWorlds.{reason_of, IsAsBefore};
 
     /// Listens from now on at the address and the port of the mailbox that the world is to be started with. Where that
     /// can't be done nothing is said: the start tries again, and fails where it still can't.
     pub fn reserve(&mut self, at: Endpoint)
-        // What stays as it was.
-        ensures looked { has_looked self.new ≡ has_looked self.old }
-        ensures faults { faults_of self.new ≡ faults_of self.old }
+        ensures same { IsAsBefore self.old self.new }
         ensures reason { reason_of self.new ≡ reason_of self.old }
-        ensures row { Waits self.old self.new }
     {
         self.fabric.reserve(at);
     }
@@ -124,7 +121,7 @@ impl<R: Net> RealWorld<R> {
 
 impl<R: Net + Clock> World for RealWorld<R> {
     ghost use Rattle.zre_fabric.specs.RealWorlds.{told_of, has_looked, faults_of, reason_of};
-    ghost use Rattle.zre_fabric.specs.RealWorlds.{reading_of, entries_of, commands_of, octets_of, Waits};
+    ghost use Rattle.zre_fabric.specs.RealWorlds.{reading_of, entries_of, commands_of, octets_of, IsAsBefore};
 
     ghost told = { told_of };
 
@@ -192,27 +189,19 @@ impl<R: Net + Clock> World for RealWorld<R> {
 
     /// Begins what the act asks for, and waits for nothing. An act on a link or connection that is gone does nothing.
     fn act(&mut self, act: &Act) -> Result<(), OutOfMemory>
-        // What is done.
         ensures ok { OnOk result (told_of self.new ≡ option_map (with_deed (DeedValue.Done act.now))
             (told_of self.old)) }
         ensures err { OnErr result (told_of self.new ≡ told_of self.old) }
-        // What stays as it was.
-        ensures looked { has_looked self.new ≡ has_looked self.old }
-        ensures faults { faults_of self.new ≡ faults_of self.old }
-        ensures row { Waits self.old self.new }
+        ensures same { IsAsBefore self.old self.new }
     {
         self.fabric.act(act)
     }
 
     fn offer(&mut self, link: u64, bytes: &[u8]) -> Result<(), OutOfMemory>
-        // What is done.
         ensures ok { OnOk result (told_of self.new ≡ option_map (with_deed (DeedValue.Offered link bytes.now))
             (told_of self.old)) }
         ensures err { OnErr result (told_of self.new ≡ told_of self.old) }
-        // What stays as it was.
-        ensures looked { has_looked self.new ≡ has_looked self.old }
-        ensures faults { faults_of self.new ≡ faults_of self.old }
-        ensures row { Waits self.old self.new }
+        ensures same { IsAsBefore self.old self.new }
     {
         self.fabric.offer(link, bytes)
     }
