@@ -1,9 +1,7 @@
 -- What stands under an adapter that raises an alarm, or heeds one.
 use Rattle.std.specs.Prelude.{Bool}
-use Rattle.zre_fabric.specs.declared.alarm.Alarm.{Alarm}
 use Rattle.zre_fabric.specs.declared.alarm.Alarming.{Alarming}
 use Rattle.zre_fabric.specs.declared.heeding.Heeding.{Heeding}
-use Rattle.zre_fabric.specs.MaybeShared.{is_nothing}
 
 -- what does the work
 abbrev pub under : {T : Type 0} → Alarming T → T
@@ -16,7 +14,3 @@ heeding_under h = h.inner
 -- the alarm was raised, and it has found that out
 abbrev pub is_over : {S : Type 0} → Heeding S → Bool
 is_over h = h.is_over
-
--- nobody hears it
-abbrev pub is_silent : Alarm → Bool
-is_silent a = is_nothing a.line

@@ -11,9 +11,9 @@ pub mod Readings
 pub mod RealWorlds
 pub mod ErrorClasses
 pub mod Looking
-pub mod MaybeShared
 pub mod TcpDesks
 pub mod Tokens
 pub mod NetworkFaults
+pub mod Notifiers
 pub mod Retries
 pub mod Shares

@@ -1,8 +1,8 @@
 //! The alarm of a node: who fails raises it, so that nobody waits for more input.
 
-ghost use Rattle.std.specs.Prelude.{◌≡◌, is_none, true};
+ghost use Rattle.std.specs.Prelude.{◌≡◌, is_none};
 
-use crate::maybe_shared::MaybeShared;
+use crate::notifier::Notifier;
 use std::alloc::Global;
 use std::net::{Net, Shutdown};
 use std::os::fd::{AsRawFd, RawFd};
@@ -12,51 +12,28 @@ use zre_values::{OutOfMemory, take_apart};
 
 /// The near end is shut down where the alarm is raised, and then the far end is at its end for whoever watches it.
 #[derive(Drop)]
-struct Line {
+pub struct AlarmLine {
     near: UnixStream,
     far: UnixStream,
 }
 
-/// A share of an alarm. It is raised once, and stays so.
-#[derive(Drop)]
-pub struct Alarm {
-    line: MaybeShared<Line>,
-}
+/// A share of an alarm. It is raised once, and stays so. Nobody hears a silent one.
+pub type Alarm = Notifier<AlarmLine>;
 
-impl Alarm {
-    ghost use Rattle.zre_fabric.specs.Alarms.{is_silent};
-
-    /// One that nobody hears.
-    pub fn silent() -> Self
-        ensures { is_silent result ≡ true }
-    {
-        Alarm {
-            line: MaybeShared::nothing(),
-        }
-    }
+impl Notifier<AlarmLine> {
+    ghost use Rattle.zre_fabric.specs.Notifiers.{is_silent};
 
     /// An alarm. Where the system has none to give, it is silent.
     pub fn new<R: Net>(rt: &R, alloc: Global) -> Self {
         let Ok((near, far)) = UnixStream::pair(rt) else {
-            return Alarm::silent();
+            return Notifier::silent();
         };
-        Alarm {
-            line: MaybeShared::new(alloc, Line { near, far }),
-        }
-    }
-
-    /// Another share of it.
-    pub fn share(&self) -> Self
-        ensures { is_silent self.now ≡ true → is_silent result ≡ true }
-    {
-        Alarm {
-            line: self.line.share(),
-        }
+        Notifier::over(alloc, AlarmLine { near, far })
     }
 
     /// Raises it. Who hears it reads no more.
     pub fn raise(&self) {
-        if let Some(line) = self.line.get() {
+        if let Some(line) = self.line() {
             let _ = line.near.shutdown(Shutdown::Both);
         }
     }
@@ -75,7 +52,7 @@ impl Alarm {
     pub(crate) fn descriptor(&self) -> Option<RawFd>
         ensures { is_none result ≡ is_silent self.now }
     {
-        match self.line.get() {
+        match self.line() {
             Some(line) => Some(line.far.as_raw_fd()),
             None => None,
         }

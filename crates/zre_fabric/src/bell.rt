@@ -1,8 +1,8 @@
 //! The bell that the readers of users' input ring, so that what was typed is looked for at once.
 
-ghost use Rattle.std.specs.Prelude.{◌≡◌, ◌≤◌, ◌<◌, true, is_none};
+ghost use Rattle.std.specs.Prelude.{◌≡◌, ◌≤◌, ◌<◌, is_none};
 
-use crate::maybe_shared::MaybeShared;
+use crate::notifier::Notifier;
 use mio::net::UnixStream;
 use std::alloc::Global;
 use std::io::{self, Read, Write};
@@ -26,47 +26,25 @@ const LOOK: u8 = b'l';
 
 const EMPTY: u8 = b'e';
 
-/// What rings the bell of a world. Several sources may share it.
-#[derive(Drop)]
-pub struct Ringer {
-    line: MaybeShared<Line>,
-}
+/// What rings the bell of a world. Several sources may share it. A silent one rings nothing.
+pub type Ringer = Notifier<Line>;
 
-impl Ringer {
-    ghost use Rattle.zre_fabric.specs.Bells.{is_mute};
-
-    /// One that rings nothing.
-    pub fn silent() -> Self
-        ensures { is_mute result ≡ true }
-    {
-        Ringer {
-            line: MaybeShared::nothing(),
-        }
-    }
+impl Notifier<Line> {
+    ghost use Rattle.zre_fabric.specs.Notifiers.{is_silent};
 
     /// A bell, and what rings it. Where the system has none to give, it rings nothing.
     pub fn with_bell<R: Net>(rt: &R, alloc: Global) -> (Self, Option<Bell>)
-        ensures { is_mute result.0 ≡ is_none result.1 }
+        ensures { is_silent result.0 ≡ is_none result.1 }
     {
         let Ok((line, bell)) = pair(rt) else {
-            return (Ringer::silent(), None);
+            return (Notifier::silent(), None);
         };
-        let line = MaybeShared::new(alloc, line);
-        if line.get().is_none() {
-            drop(line);
+        let ringer = Notifier::over(alloc, line);
+        if ringer.line().is_none() {
             drop(bell);
-            return (Ringer::silent(), None);
+            return (ringer, None);
         }
-        (Ringer { line }, Some(bell))
-    }
-
-    /// Another that rings the same bell.
-    pub fn share(&self) -> Self
-        ensures { is_mute self.now ≡ true → is_mute result ≡ true }
-    {
-        Ringer {
-            line: self.line.share(),
-        }
+        (ringer, Some(bell))
     }
 }
 
@@ -109,7 +87,7 @@ impl<S> Ringing<S> {
         ensures some { 0 < result }
         ensures most { result ≤ len }
     {
-        if self.ringer.line.get().is_some() {
+        if self.ringer.line().is_some() {
             len.min(PIECE)
         } else {
             len
@@ -120,7 +98,7 @@ impl<S> Ringing<S> {
     fn ring(&mut self)
         ensures { source_under self.new ≡ source_under self.old }
     {
-        let Some(line) = self.ringer.line.get() else {
+        let Some(line) = self.ringer.line() else {
             return;
         };
         if self.given == 0 {
