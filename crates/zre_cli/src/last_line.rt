@@ -1,8 +1,7 @@
 //! A sink that remembers the last line that was written.
 
 use std::str;
-use zre_outside::{NextFault, Sink};
-use zre_values::take_apart;
+use zre_fabric::{Observed, Observer};
 
 /// So many octets of a line are remembered: a line that tells of bad input has fewer.
 const LENGTH: usize = 64;
@@ -16,7 +15,7 @@ pub(crate) struct LastLine {
 }
 
 impl LastLine {
-    fn new() -> Self {
+    pub(crate) fn new() -> Self {
         LastLine {
             octets: [0; LENGTH],
             len: 0,
@@ -52,45 +51,11 @@ impl LastLine {
     }
 }
 
+impl Observer for LastLine {
+    fn wrote(&mut self, octets: &[u8]) {
+        self.push_end(octets);
+    }
+}
+
 /// A sink, and the last line that was written to it.
-pub(crate) struct Remembering<S> {
-    inner: S,
-    line: LastLine,
-}
-
-impl<S: Drop> Drop for Remembering<S> {
-    fn drop(self) {
-        take_apart!(self, Remembering: inner, line);
-    }
-}
-
-impl<S> Remembering<S> {
-    pub(crate) fn new(inner: S) -> Self {
-        Remembering {
-            inner,
-            line: LastLine::new(),
-        }
-    }
-
-    pub(crate) fn inner(&self) -> &S {
-        &self.inner
-    }
-
-    pub(crate) fn line(&self) -> &LastLine {
-        &self.line
-    }
-}
-
-impl<S: Sink> Sink for Remembering<S> {
-    ghost written = { λ s. S.written s.inner };
-
-    ghost faults = { λ s. S.faults s.inner };
-
-    ghost refused = { λ s. S.refused s.inner };
-
-    fn write(&mut self, bytes: &[u8]) -> Result<usize, NextFault> {
-        let n = self.inner.write(bytes)?;
-        self.line.push_end(&bytes[..n]);
-        Ok(n)
-    }
-}
+pub(crate) type Remembering<S> = Observed<S, LastLine>;

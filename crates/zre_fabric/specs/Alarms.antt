@@ -1,11 +1,6 @@
--- What stands under an adapter that raises an alarm, or heeds one.
+-- What a source that heeds an alarm stands on, and whether it is over.
 use Rattle.std.specs.Prelude.{Bool}
-use Rattle.zre_fabric.specs.declared.alarm.Alarming.{Alarming}
 use Rattle.zre_fabric.specs.declared.heeding.Heeding.{Heeding}
-
--- what does the work
-abbrev pub under : {T : Type 0} → Alarming T → T
-under a = a.inner
 
 -- the source under it
 abbrev pub heeding_under : {S : Type 0} → Heeding S → S

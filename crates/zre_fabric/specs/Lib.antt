@@ -15,5 +15,6 @@ pub mod TcpDesks
 pub mod Tokens
 pub mod NetworkFaults
 pub mod Notifiers
+pub mod Observers
 pub mod Retries
 pub mod Shares

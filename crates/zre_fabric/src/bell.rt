@@ -29,7 +29,7 @@ const EMPTY: u8 = b'e';
 /// What rings the bell of a world. Several sources may share it. A silent one rings nothing.
 pub type Ringer = Notifier<Line>;
 
-impl Notifier<Line> {
+impl Ringer {
     ghost use Rattle.zre_fabric.specs.Notifiers.{is_silent};
 
     /// A bell, and what rings it. Where the system has none to give, it rings nothing.

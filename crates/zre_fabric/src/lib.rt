@@ -37,6 +37,7 @@
 //! - An [`Alarm`] is raised by who fails: [`Alarming`] is a sink, a recorder or a world that raises it where a call is
 //!   refused, and a sink that raises it at a write of no octets, too. [`Heeding`] is a source that waits for its input
 //!   and the alarm at the same time, and is at its end once that was raised. So nobody waits for input in vain.
+//!   [`Observed`] is such an object for any [`Observer`].
 //! - A [`TcpDesk`] gives at most so many clients, then closes its listener, so that a further one is refused. Where
 //!   there is no descriptor for one it fails. Each client's source rings, and heeds the alarm.
 //! - `RealWorld::reserve` takes the mailbox's port before the start.
@@ -76,6 +77,7 @@ mod link;
 mod links;
 mod network_fault;
 mod notifier;
+mod observed;
 mod pace;
 mod polled;
 mod polled_sockets;
@@ -98,5 +100,6 @@ pub use errors::{ErrorClass, class_of};
 pub use heeding::Heeding;
 pub use network_fault::{Reason, SystemPart};
 pub use notifier::Notifier;
+pub use observed::{Observed, Observer};
 pub use real_world::RealWorld;
 pub use tcp_desk::{TcpClient, TcpDesk};
