@@ -9,7 +9,7 @@ use crate::arrivals::{Arrival, Arrivals};
 use crate::beacons::BeaconSocket;
 use crate::conn::TcpConn;
 use crate::entry_source::{EntrySource, token_of};
-use crate::errors::{ErrorClass, class_of};
+use crate::errors::{ErrorClass, class_of, once_ready};
 use crate::links::{Links, Times};
 use crate::network_fault::{NetworkFault, SystemPart, failed, no_memory};
 use crate::polled::Polled;
@@ -89,18 +89,23 @@ impl Sockets {
             addr: s.host,
             port: s.port,
         };
-        let listener = match listen(rt, listens_at, reserved) {
+        let listener = match listen_with_room(rt, listens_at, reserved) {
             Ok(listener) => listener,
             Err(error) => {
                 drop(beacons);
                 return Err(failed(SystemPart::Mailbox(listens_at), error));
             }
         };
-        if let Err(error) = try_two(rt) {
-            drop(beacons);
-            drop(listener);
-            return Err(failed(SystemPart::Mailbox(listens_at), error));
-        }
+        Sockets::over(alloc, beacons, listener, listens_at)
+    }
+
+    // No connection came yet, and there is no link.
+    fn over(
+        alloc: Global,
+        beacons: BeaconSocket,
+        listener: TcpListener,
+        listens_at: Endpoint,
+    ) -> Result<Self, NetworkFault> {
         let (Ok(buffer), Ok(shares)) = (ReadBuffer::new(alloc), Shares::new(alloc)) else {
             drop(beacons);
             drop(listener);
@@ -445,7 +450,17 @@ impl Sockets {
     }
 }
 
-// Whether two more sockets can be had, for a connection and a link. With fewer a node can't enter anybody.
+// A listener, where two more sockets can be had besides it, for a connection and a link. With fewer a node can't enter
+// anybody.
+fn listen_with_room<R: Net>(
+    rt: &R,
+    at: Endpoint,
+    reserved: Option<Reserved>,
+) -> io::Result<TcpListener> {
+    let listener = listen(rt, at, reserved)?;
+    once_ready(listener, try_two(rt))
+}
+
 fn try_two<R: Net>(rt: &R) -> io::Result<()> {
     let (one, other) = UnixStream::pair(rt)?;
     drop(one);
