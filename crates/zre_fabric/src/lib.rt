@@ -99,7 +99,6 @@ pub use bell::{Bell, Ringer, Ringing};
 pub use errors::{ErrorClass, class_of};
 pub use heeding::Heeding;
 pub use network_fault::{Reason, SystemPart};
-pub use notifier::Notifier;
 pub use observed::{Observed, Observer};
 pub use real_world::RealWorld;
 pub use tcp_desk::{TcpClient, TcpDesk};
