@@ -1,6 +1,6 @@
-ghost use Rattle.std.specs.Prelude.{◌≡◌, ◌≤◌, nat_le, true, None, Some, IfOk, OnErr};
+ghost use Rattle.std.specs.Prelude.{◌≡◌, ◌≤◌, nat_le, true, None, Some, IfOk, IfSome, OnErr};
 ghost use Rattle.zre_outside.specs.Worlds.{IsTurn, is_look};
-ghost use Rattle.zre_fabric.specs.Pieces.{TurnIsShort};
+ghost use Rattle.zre_fabric.specs.Pieces.{IsShort, TurnIsShort};
 ghost use Rattle.zre_fabric.specs.Readings.{IsReadAt};
 ghost use Rattle.zre_fabric.specs.Looking.{is_full, entries_after, commands_after, octets_after};
 
@@ -61,6 +61,30 @@ impl<R: Net> Fabric<R> {
         ensures same { self.new ≡ record self.old { prepared = self.new.prepared } }
     {
         self.prepared.reserve(&self.rt, at);
+    }
+}
+
+// The entry with what was found, or a look where that is nothing.
+fn turn_of(input: Option<Input>, at: u64, network: &mut PolledSockets, row: &mut SinceLook) -> Turn
+    // The turn.
+    ensures short { IfSome input (λ i. IsShort i) → TurnIsShort result }
+    ensures reading { IsReadAt at result }
+    ensures look { input ≡ None → is_look result ≡ true }
+    // What is counted since the last look.
+    ensures row { (row.new.entries ≡ entries_after row.old.entries result)
+        × (row.new.commands ≡ commands_after row.old.commands None result) }
+    ensures octets { row.new.octets ≡ octets_after row.old.octets result }
+{
+    match input {
+        Some(input) => {
+            row.gave_entry(octets_of(&input));
+            Turn::Entry(Entry { at, input })
+        }
+        None => {
+            network.gave_look(at);
+            row.gave_look();
+            Turn::Look
+        }
     }
 }
 
@@ -167,27 +191,16 @@ impl<R: Net + Clock> Fabric<R> {
             return Err(failed(SystemPart::Poll, io::Error::from(ErrorKind::NotConnected)));
         };
         if self.row.is_full() || self.row.is_long() {
-            network.gave_look(at);
-            self.row.gave_look();
-            return Ok(Turn::Look);
+            return Ok(turn_of(None, at, network, &mut self.row));
         }
-        if let Some(input) = network.find(&self.rt, at, &mut self.prepared.bell)? {
-            self.row.gave_entry(octets_of(&input));
-            return Ok(Turn::Entry(Entry { at, input }));
+        let there = network.find(&self.rt, at, &mut self.prepared.bell)?;
+        if there.is_some() {
+            return Ok(turn_of(there, at, network, &mut self.row));
         }
         network.wait(&self.rt, at, &mut self.prepared.bell)?;
         let at = self.stopwatch.read(&self.rt)?;
-        match network.find(&self.rt, at, &mut self.prepared.bell)? {
-            Some(input) => {
-                self.row.gave_entry(octets_of(&input));
-                Ok(Turn::Entry(Entry { at, input }))
-            }
-            None => {
-                network.gave_look(at);
-                self.row.gave_look();
-                Ok(Turn::Look)
-            }
-        }
+        let come = network.find(&self.rt, at, &mut self.prepared.bell)?;
+        Ok(turn_of(come, at, network, &mut self.row))
     }
 
     pub(crate) fn act(&mut self, act: &Act) -> Result<(), OutOfMemory>
