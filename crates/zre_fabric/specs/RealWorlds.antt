@@ -1,5 +1,8 @@
 -- What a world over real sockets tells.
-use Rattle.std.specs.Prelude.{◌≡◌, ℕ, Bool, Option, None}
+use Rattle.std.specs.Prelude.{◌≡◌, ◌≤◌, ℕ, Bool, Option, None, Result, IsSome, IsErrOf}
+use Rattle.zre_outside.specs.declared.sink.NextFault.{NextFault}
+use Rattle.zre_outside.specs.declared.sink.NextFault.TheVariants as fault
+use Rattle.zre_outside.specs.Causes.{Rose, counted, is_failed}
 use Rattle.zre_outside.specs.Worlds.{Log}
 use Rattle.zre_fabric.specs.declared.real_world.RealWorld.{RealWorld}
 use Rattle.zre_fabric.specs.declared.network_fault.Reason.{Reason}
@@ -19,6 +22,13 @@ faults_of w = w.faults
 -- what failed last, and why
 abbrev pub reason_of : {R : Type 0} → RealWorld R → Option Reason
 reason_of w = w.reason
+
+-- the count of faults never falls; it rises in a call that answers Failed, and nowhere else, and then there is a reason
+abbrev pub CountsFault : {T R : Type 0} → Result T NextFault → RealWorld R → RealWorld R → Type 0
+CountsFault answer old new =
+    (faults_of old ≤ faults_of new) × (IsErrOf answer fault.Failed → Rose (faults_of old) (faults_of new))
+    × (faults_of new ≡ counted (is_failed answer) (faults_of old))
+    × (IsErrOf answer fault.Failed → IsSome (reason_of new))
 
 -- the last reading of its clock
 abbrev pub reading_of : {R : Type 0} → RealWorld R → ℕ

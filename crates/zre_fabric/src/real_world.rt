@@ -1,7 +1,7 @@
 ghost use Rattle.std.specs.Prelude.{◌≡◌, ◌≤◌, nat_le, false, true, None, option_map, IsSome, IfOk};
-ghost use Rattle.std.specs.Prelude.{OnOk, OnErr, IsErrOf};
+ghost use Rattle.std.specs.Prelude.{OnOk, OnErr};
 ghost use Rattle.zre_outside.specs.declared.deed.Deed.{Deed as DeedValue};
-ghost use Rattle.zre_outside.specs.Causes.{Rose, raised, counted, is_failed};
+ghost use Rattle.zre_outside.specs.Causes.{Rose, raised};
 ghost use Rattle.zre_outside.specs.Worlds.{with_start, IsTurn, is_look, after_turn, with_deed};
 ghost use Rattle.zre_fabric.specs.Pieces.{TurnIsShort};
 ghost use Rattle.zre_fabric.specs.Readings.{IsReadAt};
@@ -120,7 +120,7 @@ impl<R: Net> RealWorld<R> {
 }
 
 impl<R: Net + Clock> World for RealWorld<R> {
-    ghost use Rattle.zre_fabric.specs.RealWorlds.{told_of, has_looked, faults_of, reason_of};
+    ghost use Rattle.zre_fabric.specs.RealWorlds.{told_of, has_looked, faults_of, CountsFault};
     ghost use Rattle.zre_fabric.specs.RealWorlds.{reading_of, entries_of, commands_of, octets_of, IsAsBefore};
 
     ghost told = { told_of };
@@ -132,14 +132,12 @@ impl<R: Net + Clock> World for RealWorld<R> {
     /// Binds UDP at `listen` and the port of beacons, for sending to broadcast addresses too, and TCP at `host` and
     /// `port`. It fails where one of them can't be bound. What was started before is closed in any case.
     fn start(&mut self, s: &Start) -> Result<(), NextFault>
+        // What it tells.
         ensures told { OnOk result (told_of self.new ≡ option_map (with_start s.now) (told_of self.old)) }
         ensures refused { OnErr result (told_of self.new ≡ told_of self.old) }
         ensures looked { has_looked self.new ≡ has_looked self.old }
-        ensures later { faults_of self.old ≤ faults_of self.new }
-        ensures failed { IsErrOf result NextFault.Failed → Rose (faults_of self.old) (faults_of self.new) }
-        // The count rises where it failed, and nowhere else.
-        ensures counted { faults_of self.new ≡ counted (is_failed result) (faults_of self.old) }
-        ensures reason { IsErrOf result NextFault.Failed → IsSome (reason_of self.new) }
+        ensures faults { CountsFault result self.old self.new }
+        // The clock, and what is counted since the last look.
         ensures clock { reading_of self.old ≤ reading_of self.new }
         ensures row { (entries_of self.new ≡ 0) × (commands_of self.new ≡ 0) }
         ensures octets { octets_of self.new ≡ 0 }
@@ -154,19 +152,14 @@ impl<R: Net + Clock> World for RealWorld<R> {
     /// UDP socket or the listener fails.
     fn next(&mut self, command: Option<Command>) -> Result<Turn, NextFault>
         requires { IsSome command → has_looked self.old ≡ true }
+        // The turn, and what the world tells of it.
         ensures turn { IfOk result (λ t. IsTurn command t) }
         ensures told { IfOk result (λ t. told_of self.new ≡ option_map (after_turn command t) (told_of self.old)) }
         ensures looked { IfOk result (λ t. has_looked self.new ≡ is_look t) }
-        ensures refused { OnErr result ((told_of self.new ≡ told_of self.old)
-            × (has_looked self.new ≡ has_looked self.old)) }
-        ensures later { faults_of self.old ≤ faults_of self.new }
-        ensures failed { IsErrOf result NextFault.Failed → Rose (faults_of self.old) (faults_of self.new) }
-        // The count rises where it failed, and nowhere else.
-        ensures counted { faults_of self.new ≡ counted (is_failed result) (faults_of self.old) }
-        ensures reason { IsErrOf result NextFault.Failed → IsSome (reason_of self.new) }
+        ensures short { IfOk result (λ t. TurnIsShort t) }
+        // The clock.
         ensures clock { reading_of self.old ≤ reading_of self.new }
         ensures reading { IfOk result (λ t. IsReadAt (reading_of self.new) t) }
-        ensures short { IfOk result (λ t. TurnIsShort t) }
         // A look comes again after each command at once, unless 64 came in a row, and after 64 entries or 65,536 octets
         // at most.
         ensures look { command ≡ None → is_full (entries_of self.old) (commands_of self.old) ≡ true
@@ -175,6 +168,10 @@ impl<R: Net + Clock> World for RealWorld<R> {
         ensures octets { IfOk result (λ t. octets_of self.new ≡ octets_after (octets_of self.old) t) }
         ensures row { IfOk result (λ t. (entries_of self.new ≡ entries_after (entries_of self.old) t)
             × (commands_of self.new ≡ commands_after (commands_of self.old) command t)) }
+        // A call that is refused.
+        ensures refused { OnErr result ((told_of self.new ≡ told_of self.old)
+            × (has_looked self.new ≡ has_looked self.old)) }
+        ensures faults { CountsFault result self.old self.new }
         ensures kept { OnErr result ((entries_of self.new ≡ entries_of self.old)
             × (commands_of self.new ≡ commands_of self.old) × (octets_of self.new ≡ octets_of self.old)) }
     {
