@@ -24,7 +24,7 @@ use Rattle.zre_commands.proofs.follow.Growing.{newly, messages_more, over_stays,
 
 -- ---- after the end of the run
 
-pub over_fed : (f : Follower) (o x : List ℕ) → is_spent f.taker.run ≡ true → Fed f o → Fed f (o ++ x)
+pub over_fed : (f : Follower) (o x : List ℕ) → is_spent f.run ≡ true → Fed f o → Fed f (o ++ x)
 over_fed f o x e h =
     let all : over (o ++ x) ≡ true = over_stays o x (sym h.spent ∙ e) in
     record {
@@ -33,24 +33,24 @@ over_fed f o x e h =
       read = λ n. absurd (true≢false (sym all ∙ n));
     }
 
-pub over_grows : (f : Follower) (o x out : List ℕ) → is_spent f.taker.run ≡ true → Fed f o → Grows (follow (peer_of f)) o x out out
+pub over_grows : (f : Follower) (o x out : List ℕ) → is_spent f.run ≡ true → Fed f o → Grows (follow (peer_of f)) o x out out
 over_grows f o x out e h = record { added = []; longer = text_over (peer_of f) o x (sym h.spent ∙ e); appended = sym (append-nil out) }
 
-pub over_goes : (f : Follower) (o x : List ℕ) → is_spent f.taker.run ≡ true → Fed f o → false ≡ is_stopped (o ++ x)
+pub over_goes : (f : Follower) (o x : List ℕ) → is_spent f.run ≡ true → Fed f o → false ≡ is_stopped (o ++ x)
 over_goes f o x e h = sym (ap (λ b. not b && is_some (fault Any Traffic (o ++ x))) (over_stays o x (sym h.spent ∙ e)))
 
 -- ---- before it
 
 -- what goes on has no fault
-faultless : (f : Follower) (o : List ℕ) → is_spent f.taker.run ≡ false → Fed f o → is_stopped o ≡ false → is_some (fault Any Traffic o) ≡ false
+faultless : (f : Follower) (o : List ℕ) → is_spent f.run ≡ false → Fed f o → is_stopped o ≡ false → is_some (fault Any Traffic o) ≡ false
 faultless f o e h going = sym (ap (λ b. not b && is_some (fault Any Traffic o)) (sym h.spent ∙ e)) ∙ going
 
 -- so its reader stands after it
-pub going_reads : (f : Follower) (o : List ℕ) → is_spent f.taker.run ≡ false → Fed f o → is_stopped o ≡ false → Reads Any Traffic o f.reader
+pub going_reads : (f : Follower) (o : List ℕ) → is_spent f.run ≡ false → Fed f o → is_stopped o ≡ false → Reads Any Traffic o f.reader
 going_reads f o e h going = stands_after Traffic o f.fault f.reader (h.read (sym h.spent ∙ e)) (faultless f o e h going)
 
 -- a reader that is spent is of no octets that go on
-pub not_spent : {A : Type 0} (f : Follower) (o : List ℕ) → is_spent f.taker.run ≡ false → f.reader.spent ≡ true → Fed f o → is_stopped o ≡ false → A
+pub not_spent : {A : Type 0} (f : Follower) (o : List ℕ) → is_spent f.run ≡ false → f.reader.spent ≡ true → Fed f o → is_stopped o ≡ false → A
 not_spent f o e s h going = is_unspent Traffic o f.fault f.reader (h.read (sym h.spent ∙ e)) (faultless f o e h going) s
 
 -- a piece was read, and its messages were taken
@@ -71,15 +71,15 @@ feeds_more f o x items run out out' on are taken =
     }
 
 -- the piece was read into a list that had no items, and their messages were taken out of it
-pub piece_taken : (f : Follower) (o x : List ℕ) (found : Option ZmtpFault) (reader : Reading) (before read items : List Item) (run : Run) (out out' : List ℕ) → is_spent f.taker.run ≡ false → Fed f o → is_stopped o ≡ false → before ≡ [] → items ≡ read
-    → (Reads Any Traffic o f.reader → ReadPiece Traffic o x found reader before read) → (Stands f.taker.run (messages o) → Took (peer_of f) (messages o) (messages_in items) run out out') → HasRead Traffic (o ++ x) found reader × Fed-more (peer_of f) o x run out out'
+pub piece_taken : (f : Follower) (o x : List ℕ) (found : Option ZmtpFault) (reader : Reading) (before read items : List Item) (run : Run) (out out' : List ℕ) → is_spent f.run ≡ false → Fed f o → is_stopped o ≡ false → before ≡ [] → items ≡ read
+    → (Reads Any Traffic o f.reader → ReadPiece Traffic o x found reader before read) → (Stands f.run (messages o) → Took (peer_of f) (messages o) (messages_in items) run out out') → HasRead Traffic (o ++ x) found reader × Fed-more (peer_of f) o x run out out'
 piece_taken f o x found reader before read items run out out' e h going none same reads takes =
     let on : over o ≡ false = sym h.spent ∙ e in
     let p = reads (going_reads f o e h going) in
     (p.read, feeds_more f o x items run out out' on (same ∙ items_are Traffic o x found reader before read none p) (takes (h.stands on)))
 
 -- what the machine knows after the piece
-pub feeds_on : (id : PeerId) (g : Follower) (o x out out' : List ℕ) → HasRead Traffic (o ++ x) g.fault g.reader → Fed-more id o x g.taker.run out out' → Fed g (o ++ x)
+pub feeds_on : (id : PeerId) (g : Follower) (o x out out' : List ℕ) → HasRead Traffic (o ++ x) g.fault g.reader → Fed-more id o x g.run out out' → Fed g (o ++ x)
 feeds_on id g o x out out' r k = record {
   spent = k.spent;
   stands = λ n. k.stands (k.spent ∙ n);

@@ -1,15 +1,19 @@
 -- The machine of `follow`, fed a piece part by part.
-use Rattle.std.proofs.Common.{◌≡◌, inl, inr, ℕ, ◌≤◌, false, not, ◌&&◌, List, [], ◌∷◌, ◌++◌, length, take, drop, Some, None, refl, sym, ap, ◌∙◌, subst, append_assoc, true≢false, arith}
+use Rattle.std.proofs.Common.{◌≡◌, ◌⊎◌, inl, inr, ℕ, ◌≤◌, Bool, true, false, not, ◌&&◌, List, [], ◌∷◌, ◌++◌, length, take, drop, Option, Some, None, refl, sym, ap, ◌∙◌, subst, append_assoc, true≢false, arith}
 use Rattle.std.specs.Prelude.{is_some}
 use Rattle.std.proofs.lemmas.Bool.{cases_Bool}
 use Rattle.std.proofs.lemmas.List.{append-nil, take-append-drop}
+use Rattle.zre_values.specs.declared.memory.OutOfMemory.{OutOfMemory}
+use Rattle.zre_values.specs.declared.peer_id.PeerId.{PeerId}
 use Rattle.zre_peer.specs.Standing.{Stands, is_spent}
-use Rattle.zre_zmtp.specs.Front.{PassesOn, bodies_of, item_of}
-use Rattle.zre_zmtp.specs.Reading.{Reading, Reads, IsOver}
+use Rattle.zre_peer.specs.declared.peer_run.Run.{Run}
+use Rattle.zre_zmtp.specs.Front.{PassesOn, bodies_of, item_of, passed}
+use Rattle.zre_zmtp.specs.Reading.{Reading, Reads, IsOver, new_items}
 use Rattle.zre_zmtp.specs.Stream.{Traffic, fault}
 use Rattle.zre_zmtp.specs.declared.front.Front.{Front}
 use Rattle.zre_zmtp.specs.declared.fault.ZmtpFault.{ZmtpFault}
 use Rattle.zre_zmtp.specs.declared.want.Want.TheVariants.{Any}
+use Rattle.zre_zmtp.specs.declared.item.Item.{Item}
 use Rattle.zre_zmtp.proofs.Cuts.{cases_Option}
 use Rattle.zre_zmtp.proofs.Feeding.{is_over as stays_faulty}
 use Rattle.zre_commands.specs.declared.follow.follower.Follower.{Follower}
@@ -19,14 +23,15 @@ use Rattle.zre_commands.specs.follow.Messages.{messages, messages_in, meant_by}
 use Rattle.zre_commands.specs.follow.Runs.{events_after, is_over}
 use Rattle.zre_commands.specs.follow.Taken.{Took}
 use Rattle.zre_commands.specs.pump.Meaning.{Meaning, Grows}
+use Rattle.zre_commands.specs.Stream.{HasRead}
 use Rattle.zre_peer.specs.Lines.{lines}
 use Rattle.zre_commands.proofs.follow.Feeding.{Fed-more, feeds_more, feeds_on, going_reads, over_fed, over_grows}
 
 -- ---- a part
 
 -- a message at the front of the octets was passed, and taken
-pub front_taken : (f g : Follower) (o octets : List ℕ) (m : Front) (out out' : List ℕ) → is_spent f.taker.run ≡ false → Fed f o → is_stopped o ≡ false → PassesOn f.reader g.reader m octets
-    → (Stands f.taker.run (messages o) → Took (peer_of f) (messages o) (meant_by (bodies_of m)) g.taker.run out out') → g.fault ≡ f.fault
+pub front_taken : (f g : Follower) (o octets : List ℕ) (m : Front) (out out' : List ℕ) → is_spent f.run ≡ false → Fed f o → is_stopped o ≡ false → PassesOn f.reader g.reader m octets
+    → (Stands f.run (messages o) → Took (peer_of f) (messages o) (meant_by (bodies_of m)) g.run out out') → g.fault ≡ f.fault
     → Fed g (o ++ take m.len octets) × Grows (follow (peer_of f)) o (take m.len octets) out out'
 front_taken f g o octets m out out' e h going p takes same =
     let x = take m.len octets in
@@ -34,7 +39,7 @@ front_taken f g o octets m out out' e h going p takes same =
     let reads : Reads Any Traffic o f.reader = going_reads f o e h going in
     let k = p.front.read Any Traffic o f.reader reads p.rested in
     let after : Reads Any Traffic (o ++ x) g.reader = subst (λ (r : Reading). Reads Any Traffic (o ++ x) r) (sym p.after) k.0 in
-    let more : Fed-more (peer_of f) o x g.taker.run out out' = feeds_more f o x (item_of f.reader m ∷ []) g.taker.run out out' on k.1.appended (takes (h.stands on)) in
+    let more : Fed-more (peer_of f) o x g.run out out' = feeds_more f o x (item_of f.reader m ∷ []) g.run out out' on k.1.appended (takes (h.stands on)) in
     let none : g.fault ≡ fault Any Traffic (o ++ x) = same ∙ (h.read on).faulty ∙ reads.faultless ∙ sym after.faultless in
     (feeds_on (peer_of f) g o x out out' (record { faulty = none; reads = λ _. after }) more, more.text)
 
@@ -65,12 +70,12 @@ begins f piece out = record {
   same = refl;
 }
 
-not_stopped : (f : Follower) (o : List ℕ) → Fed f o → is_spent f.taker.run ≡ false → is_some f.fault ≡ false → is_stopped o ≡ false
+not_stopped : (f : Follower) (o : List ℕ) → Fed f o → is_spent f.run ≡ false → is_some f.fault ≡ false → is_stopped o ≡ false
 not_stopped f o h e none =
     let on : over o ≡ false = sym h.spent ∙ e in
     ap (λ b. not b && is_some (fault Any Traffic o)) on ∙ ap is_some (sym (h.read on).faulty) ∙ none
 
-pub one_more : (was now next : Follower) (piece rest later out mid out' : List ℕ) (len : ℕ) → later ≡ drop len rest → is_spent now.taker.run ≡ false → is_some now.fault ≡ false → IsAmid was now piece rest out mid → peer_of next ≡ peer_of now
+pub one_more : (was now next : Follower) (piece rest later out mid out' : List ℕ) (len : ℕ) → later ≡ drop len rest → is_spent now.run ≡ false → is_some now.fault ≡ false → IsAmid was now piece rest out mid → peer_of next ≡ peer_of now
     → ((o : List ℕ) → Fed now o → is_stopped o ≡ false → Fed next (o ++ take len rest) × Grows (follow (peer_of now)) o (take len rest) mid out')
     → IsAmid was next piece later out out'
 one_more was now next piece rest later out mid out' len back running fine amid same step =
@@ -90,7 +95,7 @@ one_more was now next piece rest later out mid out' len back running fine amid s
     }
 
 -- a fault stays
-fault_fed : (f : Follower) (o x out : List ℕ) (bad : ZmtpFault) → Fed f o → is_spent f.taker.run ≡ false → f.fault ≡ Some bad → Fed f (o ++ x) × Grows (follow (peer_of f)) o x out out
+fault_fed : (f : Follower) (o x out : List ℕ) (bad : ZmtpFault) → Fed f o → is_spent f.run ≡ false → f.fault ≡ Some bad → Fed f (o ++ x) × Grows (follow (peer_of f)) o x out out
 fault_fed f o x out bad h e there =
     let on : over o ≡ false = sym h.spent ∙ e in
     let read = h.read on in
@@ -98,7 +103,7 @@ fault_fed f o x out bad h e there =
     let same : messages (o ++ x) ≡ messages o = ap messages_in (stays.items x) in (
       record {
         spent = h.spent ∙ sym (ap (λ ms. is_over [] ms) same);
-        stands = λ n. subst (Stands f.taker.run) (sym same) (h.stands on);
+        stands = λ n. subst (Stands f.run) (sym same) (h.stands on);
         read = λ n. record { faulty = read.faulty ∙ sym (stays.fault x); reads = λ none. absurd (let no : None ≡ Some bad = sym none ∙ there in cc) };
       },
       record { added = []; longer = ap (λ ms. lines (events_after (peer_of f) [] ms)) same ∙ sym (append-nil (text (peer_of f) o)); appended = sym (append-nil out) },
@@ -107,7 +112,7 @@ fault_fed f o x out bad h e there =
 -- what goes on no more stays as it is
 ended : (f : Follower) (o x out : List ℕ) → Fed f o → GoesOn false f → Fed f (o ++ x) × Grows (follow (peer_of f)) o x out out
 ended f o x out h stays =
-    elim (cases_Bool (is_spent f.taker.run)) [
+    elim (cases_Bool (is_spent f.run)) [
       | inl spent ↦ (over_fed f o x spent h, over_grows f o x out spent h)
       | inr running ↦ elim (cases_Option f.fault) [
         | inr there ↦ fault_fed f o x out there.0 h running there.1
@@ -144,7 +149,7 @@ rest_left was now piece rest out out' o stays amid h going =
     all_of was now o amid.front rest piece out out' out' amid.parts amid.same k.1 (ended now (o ++ amid.front) rest out' k.0 stays)
 
 -- whether more octets may come
-pub stop_fed : (f : Follower) (o : List ℕ) → Fed f o → (not (is_spent f.taker.run) && is_some f.fault) ≡ is_stopped o
+pub stop_fed : (f : Follower) (o : List ℕ) → Fed f o → (not (is_spent f.run) && is_some f.fault) ≡ is_stopped o
 stop_fed f o h =
     elim (cases_Bool (over o)) [
       | inl t ↦ ap (λ b. not b && is_some f.fault) (h.spent ∙ t) ∙ sym (ap (λ b. not b && is_some (fault Any Traffic o)) t)

@@ -1,5 +1,5 @@
 -- The machine of `show`, fed one more piece: the text of more octets begins with that of fewer.
-use Rattle.std.proofs.Common.{◌≡◌, ℕ, None, true, false, List, [], ◌++◌, refl, ap, ◌∙◌}
+use Rattle.std.proofs.Common.{◌≡◌, ℕ, None, true, false, ◌||◌, List, [], ◌++◌, refl, ap, ◌∙◌}
 use Rattle.std.specs.Prelude.{is_some}
 use Rattle.std.proofs.lemmas.List.Concat.{flat_map-append}
 use Rattle.std.proofs.lemmas.Bool.{or_left}

@@ -13,18 +13,18 @@ use Rattle.zre_commands.specs.follow.Messages.{messages}
 -- the machine was fed these octets: its run is spent where they are over; else it stands after their messages, and
 -- the fault is known, or the reader stands after them
 pub record Fed (f : Follower) (o : List ℕ) : Type 0 where
-  pub spent : is_spent f.taker.run ≡ over o
-  pub stands : over o ≡ false → Stands f.taker.run (messages o)
+  pub spent : is_spent f.run ≡ over o
+  pub stands : over o ≡ false → Stands f.run (messages o)
   pub read : over o ≡ false → HasRead Traffic o f.fault f.reader
 
 -- the peer whose connection is followed
 abbrev pub peer_of : Follower → PeerId
-peer_of f = id_of f.taker.run
+peer_of f = id_of f.run
 
 -- an answer whether more octets are read: they aren't after the end of the run, nor after a fault
 abbrev pub GoesOn : Bool → Follower → Type 0
-GoesOn true f = (is_spent f.taker.run ≡ false) × (f.reader.spent ≡ false) × (is_some f.fault ≡ false)
-GoesOn false f = (is_spent f.taker.run ≡ true) ⊎ ((f.reader.spent ≡ true) ⊎ (is_some f.fault ≡ true))
+GoesOn true f = (is_spent f.run ≡ false) × (f.reader.spent ≡ false) × (is_some f.fault ≡ false)
+GoesOn false f = (is_spent f.run ≡ true) ⊎ ((f.reader.spent ≡ true) ⊎ (is_some f.fault ≡ true))
 
 -- so many octets were taken from the front of these, after whatever the machine was fed
 abbrev pub FeedsFront : Result ℕ OutOfMemory → Follower → Follower → List ℕ → List ℕ → List ℕ → Type 0

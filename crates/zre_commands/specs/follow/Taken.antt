@@ -1,5 +1,5 @@
 -- What taking messages does to a run and to the text.
-use Rattle.std.specs.Prelude.{◌≡◌, ℕ, Bool, false, not, List, ◌++◌, Option, Some, None, Result, Ok, Err, IfOk, OnOk}
+use Rattle.std.specs.Prelude.{◌≡◌, ℕ, Bool, false, not, List, ◌++◌, Result, IfOk, OnOk}
 use Rattle.zre_values.specs.declared.memory.OutOfMemory.{OutOfMemory}
 use Rattle.zre_values.specs.declared.peer_id.PeerId.{PeerId}
 use Rattle.zre_msg.specs.declared.message.Message.{Message}
@@ -20,9 +20,3 @@ pub record Takes (answer : Result Bool OutOfMemory) (was now : Run) (ns : List M
   pub took : (ms : List Message) → Stands was ms → OnOk answer (Took (id_of was) ms ns now out out')
   pub spent : IfOk answer (λ on. is_spent now ≡ not on)
   pub same : id_of now ≡ id_of was
-
--- so they were where they lie; or none was, and what they mean has to be made first
-abbrev pub TakesSeen : Result (Option Bool) OutOfMemory → Run → Run → List Message → List ℕ → List ℕ → Type 0
-TakesSeen (Ok (Some on)) was now ns out out' = Takes (Ok on) was now ns out out'
-TakesSeen (Ok None) was now ns out out' = (now ≡ was) × (out' ≡ out)
-TakesSeen (Err e) was now ns out out' = Takes (Err e) was now ns out out'

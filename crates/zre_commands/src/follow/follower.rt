@@ -1,11 +1,12 @@
 ghost use Rattle.std.specs.Prelude.{◌≡◌, ◌<◌, ◌≤◌, [], false, length, IfOk};
 ghost use Rattle.zre_peer.specs.Standing.{is_spent};
 
-use crate::follow::taking::Taker;
+use crate::follow::taking::{take_front, take_items};
 use crate::pump::{Going, Machine};
 use crate::stream::{going_after, push_end, read_piece};
 use std::alloc::Global;
 use zre_outside::{NextFault, Sink};
+use zre_peer::Teller;
 use zre_values::{Octets, OutOfMemory, PeerId};
 use zre_zmtp::{Items, Reader, ZmtpFault};
 
@@ -16,7 +17,7 @@ pub struct Follower {
     alloc: Global,
     reader: Reader,
     fault: Option<ZmtpFault>,
-    taker: Taker,
+    run: Teller,
     items: Items,
 }
 
@@ -35,7 +36,7 @@ impl Follower {
             alloc,
             reader: Reader::traffic(alloc),
             fault: None,
-            taker: Taker::new(alloc, id),
+            run: Teller::new(alloc, id),
             items: Items::new(alloc),
         }
     }
@@ -48,7 +49,7 @@ impl Follower {
     fn goes_on(&self) -> bool
         ensures { GoesOn result self.now }
     {
-        if self.taker.spent() {
+        if self.run.spent() {
             return false;
         }
         if self.reader.spent() {
@@ -65,7 +66,7 @@ impl Follower {
     fn feed_front(&mut self, octets: &[u8], out: &mut Octets) -> Result<usize, OutOfMemory>
         // What a caller knows.
         requires some { 0 < length octets.now }
-        requires running { is_spent self.old.taker.run ≡ false }
+        requires running { is_spent self.old.run ≡ false }
         requires reading { self.old.reader.spent ≡ false }
         // What the front of the octets adds.
         ensures fed { FeedsFront result self.old self.new octets.now out.old out.new }
@@ -73,14 +74,14 @@ impl Follower {
         ensures within { IfOk result (λ len. (0 < len) × (len ≤ length octets.now)) }
     {
         if let Some(front) = self.reader.pass(octets) {
-            self.taker.take_front(&front, out)?;
+            take_front(self.alloc, &front, &mut self.run, out)?;
             return Ok(front.len);
         }
         let len = self.reader.missing(octets);
         let (part, _) = octets.split_at(len);
         self.items.clear();
         let fault = read_piece(&mut self.reader, part, &mut self.items)?;
-        self.taker.take_items(self.items.as_slice(), out)?;
+        take_items(self.alloc, self.items.as_slice(), &mut self.run, out)?;
         self.fault = fault;
         Ok(len)
     }
@@ -100,7 +101,7 @@ impl Machine for Follower {
 
     #[tactic(auto, using(crate::proofs::follow::Growing::text_grows))]
     fn feed(&mut self, piece: &[u8], out: &mut Octets) -> Result<Going, OutOfMemory> {
-        if self.taker.spent() {
+        if self.run.spent() {
             return Ok(Going::On);
         }
         if self.reader.spent() {
@@ -109,17 +110,17 @@ impl Machine for Follower {
         let mut rest = piece;
         while !rest.is_empty() {
             if !self.goes_on() {
-                return Ok(going_after(&self.fault, self.taker.spent()));
+                return Ok(going_after(&self.fault, self.run.spent()));
             }
             let len = self.feed_front(rest, out)?;
             let (_, later) = rest.split_at(len);
             rest = later;
         }
-        Ok(going_after(&self.fault, self.taker.spent()))
+        Ok(going_after(&self.fault, self.run.spent()))
     }
 
     fn finish<O: Sink>(&self, taken: u64, text: &mut Octets, _: &mut O) -> Result<bool, NextFault> {
-        if self.taker.spent() {
+        if self.run.spent() {
             return Ok(false);
         }
         Ok(push_end(&self.reader, self.fault, taken, text)?)

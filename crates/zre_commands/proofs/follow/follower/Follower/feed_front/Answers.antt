@@ -1,4 +1,4 @@
-use Rattle.std.proofs.Common.{sym, subst, refl}
+use Rattle.std.proofs.Common.{sym, ap, subst, refl, ◌∙◌}
 use Rattle.zre_zmtp.specs.Reading.{Reading, Reads}
 use Rattle.zre_zmtp.specs.Stream.{Traffic}
 use Rattle.zre_zmtp.specs.declared.want.Want.TheVariants.{Any}

@@ -6,7 +6,7 @@ use Rattle.zre_commands.proofs.follow.follower.Follower.new.Goals as goal
 pub returns-clause-fed : goal.returns-clause-fed
 returns-clause-fed c = record {
   spent = c.new.ensures.stands.going ∙ sym nothing_over;
-  stands = λ _. subst (Stands c.new.result.run) (sym no_messages) c.new.ensures.stands;
+  stands = λ _. subst (Stands c.new.result) (sym no_messages) c.new.ensures.stands;
   read = λ _. record { faulty = sym no_fault; reads = λ _. c.traffic.ensures };
 }
 
