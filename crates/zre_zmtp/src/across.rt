@@ -9,7 +9,7 @@ ghost use Rattle.zre_zmtp.specs.Shown.{held, before_of, left_of};
 ghost use Rattle.zre_zmtp.specs.Lending.{TakesPiece, LooksIfTaken, IsBetweenFrames, IsInBody};
 ghost use Rattle.zre_zmtp.specs.Across.{Follows, octets_of, mid_of, Crosses};
 
-use crate::bodies::{Bodies, Came, LentBodies};
+use crate::bodies::{Bodies, Came, LentBodies, Taken};
 use crate::expected::Expected;
 use crate::header::{Header, has_more, header_len, is_message, read_header};
 use crate::looks::Steps;
@@ -81,8 +81,8 @@ impl Progress {
     #[inline(always)]
     fn keep_first<L: Ledger>(
         &mut self,
-        header_len: usize,
         front: &[u8],
+        header_len: usize,
         first: &mut Octets,
         steps: &mut Steps<L>,
     ) -> Result<(), OutOfMemory>
@@ -112,7 +112,7 @@ impl Progress {
         next: Next<'a>,
         first: &'a mut Octets,
         steps: &mut Steps<L>,
-    ) -> Result<Came<'a>, OutOfMemory>
+    ) -> Taken<'a>
         requires traffic { self.old.expected ≡ Expected.Traffic }
         requires alone { self.old.opened ≡ [] }
         requires follows { Follows (length self.old.partial.body + length front.now) next }
@@ -141,17 +141,17 @@ impl Progress {
                 }));
             }
             Next::Nothing => {
-                self.keep_first(header_len, front, first, steps)?;
+                self.keep_first(front, header_len, first, steps)?;
                 return Ok(Came::Part);
             }
             Next::Head(head) => {
-                self.keep_first(header_len, front, first, steps)?;
+                self.keep_first(front, header_len, first, steps)?;
                 self.partial.begin_head(head);
                 return Ok(Came::Part);
             }
             Next::Part(second) => second,
         };
-        self.keep_first(header_len, front, first, steps)?;
+        self.keep_first(front, header_len, first, steps)?;
         self.partial.begin(header, head, body, steps)?;
         Ok(Came::Part)
     }
@@ -164,7 +164,7 @@ impl Progress {
         piece: &'a [u8],
         bodies: &'a mut Bodies,
         steps: &mut Steps<L>,
-    ) -> Result<Came<'a>, OutOfMemory>
+    ) -> Taken<'a>
         requires in_body { IsInBody self.old header }
         requires message { message_test header.flags ≡ true }
         requires more { more_test header.flags ≡ true }
@@ -188,11 +188,11 @@ impl Progress {
     #[inline(always)]
     pub(crate) fn begin_past<'a, L: Ledger>(
         &mut self,
-        header: Header,
         piece: &'a [u8],
+        header: Header,
         bodies: &'a mut Bodies,
         steps: &mut Steps<L>,
-    ) -> Result<Came<'a>, OutOfMemory>
+    ) -> Taken<'a>
         requires between { IsBetweenFrames self.old }
         requires header { header_of piece.now ≡ Some header }
         requires all { header_len_of piece.now + header.size ≤ length piece.now }

@@ -8,7 +8,7 @@ ghost use Rattle.zre_zmtp.specs.Looks.{LooksOnce};
 ghost use Rattle.zre_zmtp.specs.declared.item.Item.{Item};
 
 use crate::expected::Expected;
-use crate::fault::{FeedFault, ZmtpFault};
+use crate::fault::{Fed, FeedFault, ZmtpFault};
 use crate::faults::fault_of_header;
 use crate::head::Head;
 use crate::header::{Header, header_len, read_header};
@@ -33,7 +33,7 @@ pub fn begin_frame<L: Ledger>(
     header: Header,
     octets: &[u8],
     steps: &mut Steps<L>,
-) -> Result<(), FeedFault>
+) -> Fed
     // The header is there, and not all of the body.
     requires begun { HasHeader progress.old header octets.now }
     requires unfinished { length octets.now < header_len_of octets.now + header.size }

@@ -3,7 +3,7 @@
 ghost use Rattle.std.specs.Prelude.{◌≡◌, []};
 
 use std::alloc::Global;
-use zre_values::Octets;
+use zre_values::{Octets, OutOfMemory};
 
 /// Room for the bodies of a message that came in several pieces. It serves again and again.
 #[derive(Drop)]
@@ -45,3 +45,6 @@ pub enum Came<'a> {
     /// The piece says something else. Nothing changed: it is there to be fed.
     Other,
 }
+
+/// What a reader answers where a piece may be taken.
+pub type Taken<'a> = Result<Came<'a>, OutOfMemory>;

@@ -57,6 +57,9 @@ pub enum FeedFault {
     OutOfMemory,
 }
 
+/// What a reader answers where it is fed: nothing, or why the piece was refused.
+pub type Fed = Result<(), FeedFault>;
+
 impl From<zre_values::OutOfMemory> for FeedFault {
     ghost from_gives = { λ _ e. e ≡ NoMemory };
 

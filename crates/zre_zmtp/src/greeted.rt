@@ -7,7 +7,7 @@ ghost use Rattle.zre_zmtp.specs.Shown.{before_of, left_of, held, StandsAfter, Na
 ghost use Rattle.zre_zmtp.specs.Looks.{LooksOnce};
 
 use crate::expected::Expected;
-use crate::fault::{FeedFault, ZmtpFault};
+use crate::fault::{Fed, FeedFault, ZmtpFault};
 use crate::faults::{GREETING_OCTETS, fault_of_octet};
 use crate::item::{Item, Items, What};
 use crate::looks::{Steps, Store};
@@ -51,12 +51,12 @@ impl Progress {
     }
 
     /// One octet more of the greeting.
-    pub fn take_greeting<L: Ledger>(
+    pub(crate) fn take_greeting<L: Ledger>(
         &mut self,
         octet: u8,
         out: &mut Items,
         steps: &mut Steps<L>,
-    ) -> Result<(), FeedFault>
+    ) -> Fed
         requires { self.old.expected ≡ Expected.Greeting }
         // What the octets add.
         ensures ok { (want : WantValue) → StandsAfter result want self.old self.new (octet ∷ []) out.old out.new }

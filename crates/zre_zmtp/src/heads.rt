@@ -5,7 +5,7 @@ ghost use Rattle.zre_zmtp.specs.Frame.{header_of};
 ghost use Rattle.zre_zmtp.specs.Lending.{TakesPiece, LooksIfTaken, IsBetweenFrames, IsInHeader};
 ghost use Rattle.zre_zmtp.specs.Shown.{held};
 
-use crate::bodies::{Bodies, Came};
+use crate::bodies::{Bodies, Came, Taken};
 use crate::faults::fault_of_header;
 use crate::head::Head;
 use crate::header::read_header;
@@ -14,7 +14,6 @@ use crate::partial::Partial;
 use crate::progress::Progress;
 use std::mem;
 use std::sync::ledger::Ledger;
-use zre_values::OutOfMemory;
 
 impl Progress {
     // A piece comes that is a part of the header of a frame: it is kept, unless something is wrong with it.
@@ -37,7 +36,7 @@ impl Progress {
         piece: &'a [u8],
         bodies: &'a mut Bodies,
         steps: &mut Steps<L>,
-    ) -> Result<Came<'a>, OutOfMemory>
+    ) -> Taken<'a>
         requires { IsInHeader self.old }
         ensures taken { IfOk result (λ came. TakesPiece came self.old self.new piece.now) }
         ensures looks { LooksIfTaken steps.old steps.new (held self.old) (held self.new) (length piece.now) result }

@@ -8,7 +8,7 @@ ghost use Rattle.zre_zmtp.specs.Stream.{Want as WantValue, Kind, Any, Traffic};
 ghost use Rattle.zre_zmtp.specs.Reading.{Adds};
 ghost use Rattle.zre_zmtp.specs.Laws.{AwaitsMessage, IsWithinLimits, ReadsMessage, IsWanted, ReadsHandshake};
 
-use crate::fault::FeedFault;
+use crate::fault::Fed;
 use crate::item::Items;
 use crate::looks::Steps;
 use crate::reader::Reader;
@@ -36,7 +36,7 @@ pub fn looks_are_few<L: Ledger>(
     pieces: &Frames,
     out: &mut Items,
     steps: &mut Steps<L>,
-) -> Result<(), FeedFault>
+) -> Fed
     ensures read { OnOk result (Adds Any Traffic [] (concat pieces.now) out.old out.new) }
     ensures once { steps.new ≤ steps.old + length (concat pieces.now) }
     ensures looks { steps.new ≤ steps.old + 4 * length (concat pieces.now) }

@@ -5,7 +5,7 @@ ghost use Rattle.zre_zmtp.specs.Shown.{held};
 ghost use Rattle.zre_zmtp.specs.Lending.{bodies_in, IsLast, EndsWith, TakesPiece, LooksIfTaken};
 ghost use Rattle.zre_zmtp.specs.Lending.{IsBetweenFrames, IsInBody};
 
-use crate::bodies::{Bodies, Came, LentBodies};
+use crate::bodies::{Bodies, Came, LentBodies, Taken};
 use crate::expected::Expected;
 use crate::faults::fault_of_header;
 use crate::front::frame_at;
@@ -74,7 +74,7 @@ impl Progress {
         piece: &'a [u8],
         bodies: &'a mut Bodies,
         steps: &mut Steps<L>,
-    ) -> Result<Came<'a>, OutOfMemory>
+    ) -> Taken<'a>
         requires { IsInBody self.old header }
         ensures taken { IfOk result (λ came. TakesPiece came self.old self.new piece.now) }
         ensures looks { LooksIfTaken steps.old steps.new (held self.old) (held self.new) (length piece.now) result }
@@ -120,7 +120,7 @@ impl Progress {
         piece: &'a [u8],
         bodies: &'a mut Bodies,
         steps: &mut Steps<L>,
-    ) -> Result<Came<'a>, OutOfMemory>
+    ) -> Taken<'a>
         requires { IsBetweenFrames self.old }
         ensures taken { IfOk result (λ came. TakesPiece came self.old self.new piece.now) }
         ensures looks { LooksIfTaken steps.old steps.new (held self.old) (held self.new) (length piece.now) result }
@@ -135,7 +135,7 @@ impl Progress {
         };
         let (head, later) = piece.split_at(header_len(piece));
         if header.size <= later.len() as u64 {
-            return self.begin_past(header, piece, bodies, steps);
+            return self.begin_past(piece, header, bodies, steps);
         }
         if let Some(_) = fault_of_header(self, head) {
             return Ok(Came::Other);
@@ -146,12 +146,12 @@ impl Progress {
 
     /// Takes a piece that ends a message of one or two frames, or is a part of a frame, with no item made.
     #[inline(always)]
-    pub fn take_piece<'a, L: Ledger>(
+    pub(crate) fn take_piece<'a, L: Ledger>(
         &mut self,
         piece: &'a [u8],
         bodies: &'a mut Bodies,
         steps: &mut Steps<L>,
-    ) -> Result<Came<'a>, OutOfMemory>
+    ) -> Taken<'a>
         ensures taken { IfOk result (λ came. TakesPiece came self.old self.new piece.now) }
         ensures looks { LooksIfTaken steps.old steps.new (held self.old) (held self.new) (length piece.now) result }
     {

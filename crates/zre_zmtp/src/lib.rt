@@ -28,7 +28,7 @@ mod want;
 mod writing;
 
 pub use bodies::{Bodies, Came, LentBodies};
-pub use fault::{FeedFault, ZmtpFault, ZmtpWhy};
+pub use fault::{Fed, FeedFault, ZmtpFault, ZmtpWhy};
 pub use front::Front;
 pub use item::{Item, Items, What};
 pub use laws::{handshakes_are_read, looks_are_few, messages_are_read};

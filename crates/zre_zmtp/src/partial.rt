@@ -29,7 +29,7 @@ pub struct Partial {
 
 impl Partial {
     /// No octet of a frame has come. It takes no memory.
-    pub fn new(alloc: Global) -> Self
+    pub(crate) fn new(alloc: Global) -> Self
         ensures head { result.head ≡ [] }
         ensures header { result.header ≡ None }
         ensures body { result.body ≡ [] }
@@ -43,7 +43,7 @@ impl Partial {
 
     /// A frame begins whose header is whole, with octets of its body, fewer than it has. The copy is a look at each.
     #[inline(always)]
-    pub fn begin<L: Ledger>(
+    pub(crate) fn begin<L: Ledger>(
         &mut self,
         header: Header,
         head: &[u8],
@@ -68,7 +68,7 @@ impl Partial {
     }
 
     /// A frame begins with a part of its header.
-    pub fn begin_head(&mut self, head: &[u8])
+    pub(crate) fn begin_head(&mut self, head: &[u8])
         requires short { header_of head.now ≡ None }
         requires within { length head.now ≤ header_len head.now }
         requires none { self.old.head ≡ [] }
@@ -80,7 +80,11 @@ impl Partial {
 
     /// Octets more of the body, which isn't whole with them. The copy is a look at each.
     #[inline(always)]
-    pub fn add<L: Ledger>(&mut self, octets: &[u8], steps: &mut Steps<L>) -> Result<(), OutOfMemory>
+    pub(crate) fn add<L: Ledger>(
+        &mut self,
+        octets: &[u8],
+        steps: &mut Steps<L>,
+    ) -> Result<(), OutOfMemory>
         requires known { IsSome self.old.header }
         requires unfinished { ForSome self.old.header (λ said. length self.old.body + length octets.now < said.size) }
         ensures head { (self.new.head ≡ self.old.head) × (self.new.header ≡ self.old.header) }
@@ -93,7 +97,7 @@ impl Partial {
     /// The body ends with these octets: it lies where they do, or in this place, where a part of it was kept. No octet
     /// of a frame is there any more.
     #[inline(always)]
-    pub fn end<'a, L: Ledger>(
+    pub(crate) fn end<'a, L: Ledger>(
         &mut self,
         octets: &'a [u8],
         place: &'a mut Octets,
@@ -117,7 +121,7 @@ impl Partial {
 
     /// The same, but the body lies in this place wherever it came from.
     #[inline(always)]
-    pub fn end_in<L: Ledger>(
+    pub(crate) fn end_in<L: Ledger>(
         &mut self,
         octets: &[u8],
         place: &mut Octets,

@@ -13,9 +13,9 @@ ghost use Rattle.zre_zmtp.specs.Lending.{TakesOn, LooksIfTaken};
 ghost use Rattle.zre_zmtp.specs.Reading.{Reads, ReadsOn, RefusesOn, kept};
 ghost use Rattle.zre_zmtp.specs.Looks.{LooksOnce, IsOpenTo};
 
-use crate::bodies::{Bodies, Came, LentBodies};
+use crate::bodies::{Bodies, Came, LentBodies, Taken};
 use crate::expected::Expected;
-use crate::fault::FeedFault;
+use crate::fault::Fed;
 use crate::front::{Front, front_of};
 use crate::header::{header_len, read_header};
 use crate::item::Items;
@@ -27,7 +27,7 @@ use crate::want::Want;
 use std::alloc::Global;
 use std::marker::{Brand, Model};
 use std::sync::ledger::{Blank, Ledger};
-use zre_values::{Frames, OutOfMemory, take_apart};
+use zre_values::{Frames, take_apart};
 
 impl Progress {
     // Whether a message comes next, or a command, and nothing is unfinished.
@@ -54,19 +54,19 @@ impl Progress {
         }
     }
 
-    // Reads octets turn by turn. Each is looked at once.
+    // Reads a piece turn by turn. Each octet is looked at once.
     fn read<L: Ledger>(
         &mut self,
         want: &Want,
-        octets: &[u8],
+        piece: &[u8],
         out: &mut Items,
         steps: &mut Steps<L>,
-    ) -> Result<(), FeedFault>
-        ensures ok { StandsAfter result want.now self.old self.new octets.now out.old out.new }
-        ensures refused { NamesFault result want.now self.old octets.now out.old out.new }
-        ensures looks { LooksOnce steps.old steps.new (held self.old) (held self.new) (length octets.now) result }
+    ) -> Fed
+        ensures ok { StandsAfter result want.now self.old self.new piece.now out.old out.new }
+        ensures refused { NamesFault result want.now self.old piece.now out.old out.new }
+        ensures looks { LooksOnce steps.old steps.new (held self.old) (held self.new) (length piece.now) result }
     {
-        let mut rest = octets;
+        let mut rest = piece;
         while !rest.is_empty() {
             let len = self.take_turn(want, rest, out, steps)?;
             let (_, later) = rest.split_at(len);
@@ -129,7 +129,7 @@ impl Reader {
     /// Reads one more piece: the items whose last octet is now there are appended. A fault is told with the very
     /// octet that makes it certain, after the items before it; no octet that comes later changes it or adds an item.
     /// After a refusal the reader is spent. OutOfMemory is also told where a place would be above 2^64 - 1.
-    pub fn feed(&mut self, piece: &[u8], out: &mut Items) -> Result<(), FeedFault>
+    pub fn feed(&mut self, piece: &[u8], out: &mut Items) -> Fed
         requires { self.old.spent ≡ false }
         // What the octets add.
         ensures ok { ReadsOn result self.old self.new piece.now out.old out.new }
@@ -150,7 +150,7 @@ impl Reader {
         piece: &[u8],
         out: &mut Items,
         steps: &mut Steps<L>,
-    ) -> Result<(), FeedFault>
+    ) -> Fed
         requires { self.old.spent ≡ false }
         // What the octets add.
         ensures ok { ReadsOn result self.old self.new piece.now out.old out.new }
@@ -193,7 +193,7 @@ impl Reader {
         piece: &'a [u8],
         bodies: &'a mut Bodies,
         steps: &mut Steps<L>,
-    ) -> Result<Came<'a>, OutOfMemory>
+    ) -> Taken<'a>
         requires { self.old.spent ≡ false }
         // What it brings, or that it changes nothing.
         ensures taken { IfOk result (λ came. TakesOn came self.old self.new piece.now) }
@@ -247,12 +247,7 @@ impl Reader {
     }
 
     // The counted call with a counter of its own, for a caller that counts nothing.
-    fn feed_from<L: Ledger>(
-        &mut self,
-        piece: &[u8],
-        out: &mut Items,
-        blank: Blank,
-    ) -> Result<(), FeedFault>
+    fn feed_from<L: Ledger>(&mut self, piece: &[u8], out: &mut Items, blank: Blank) -> Fed
         // What a caller knows.
         requires blank { IsOpenTo L.name L.parts blank.name blank.parts }
         requires unspent { self.old.spent ≡ false }
@@ -268,7 +263,7 @@ impl Reader {
 
     /// Reads pieces one after another, as if they were one: however a stream is cut, the same items and the same
     /// fault come of it.
-    pub fn feed_pieces(&mut self, pieces: &Frames, out: &mut Items) -> Result<(), FeedFault>
+    pub fn feed_pieces(&mut self, pieces: &Frames, out: &mut Items) -> Fed
         requires { self.old.spent ≡ false }
         // What the octets add.
         ensures ok { ReadsOn result self.old self.new (concat pieces.now) out.old out.new }
@@ -286,7 +281,7 @@ impl Reader {
         pieces: &Frames,
         out: &mut Items,
         steps: &mut Steps<L>,
-    ) -> Result<(), FeedFault>
+    ) -> Fed
         requires { self.old.spent ≡ false }
         // What the octets add.
         ensures ok { ReadsOn result self.old self.new (concat pieces.now) out.old out.new }
@@ -304,12 +299,7 @@ impl Reader {
     }
 
     // The counted call with a counter of its own, for a caller that counts nothing.
-    fn feed_pieces_from<L: Ledger>(
-        &mut self,
-        pieces: &Frames,
-        out: &mut Items,
-        blank: Blank,
-    ) -> Result<(), FeedFault>
+    fn feed_pieces_from<L: Ledger>(&mut self, pieces: &Frames, out: &mut Items, blank: Blank) -> Fed
         // What a caller knows.
         requires blank { IsOpenTo L.name L.parts blank.name blank.parts }
         requires unspent { self.old.spent ≡ false }

@@ -16,7 +16,7 @@ ghost use Rattle.zre_zmtp.specs.Looks.{LooksOnce, IsPaid, IsPaidOnRefusal};
 use crate::begun::{begin_frame, header_at};
 use crate::command::{command_fault, identity, name, socket_type};
 use crate::expected::Expected;
-use crate::fault::{FeedFault, ZmtpFault, ZmtpWhy};
+use crate::fault::{Fed, FeedFault, ZmtpFault, ZmtpWhy};
 use crate::faults::fault_of_header;
 use crate::head::Head;
 use crate::header::{Header, has_more, header_len, is_message, read_header};
@@ -173,12 +173,7 @@ impl Progress {
 
     // A frame whose header is whole, where nothing else is kept: it is kept until it is whole, and then the item that
     // ends with it is appended.
-    fn take_frame(
-        &mut self,
-        want: &Want,
-        frame: HeadedFrame,
-        out: &mut Items,
-    ) -> Result<(), FeedFault>
+    fn take_frame(&mut self, want: &Want, frame: HeadedFrame, out: &mut Items) -> Fed
         // What a caller knows.
         requires frame { self.old.expected ≢ Expected.Greeting }
         requires no_head { self.old.partial.head ≡ [] }
@@ -213,7 +208,7 @@ impl Progress {
     }
 
     // What there is of a header, in which nothing is wrong: it is kept, unless a frame without a body ends with it.
-    fn begin_body(&mut self, want: &Want, head: Head, out: &mut Items) -> Result<(), FeedFault>
+    fn begin_body(&mut self, want: &Want, head: Head, out: &mut Items) -> Fed
         // What a caller knows.
         requires frame { self.old.expected ≢ Expected.Greeting }
         requires no_head { self.old.partial.head ≡ [] }
@@ -239,7 +234,7 @@ impl Progress {
     }
 
     // One octet more of a header. A frame without a body ends with it.
-    fn take_header(&mut self, want: &Want, octet: u8, out: &mut Items) -> Result<(), FeedFault>
+    fn take_header(&mut self, want: &Want, octet: u8, out: &mut Items) -> Fed
         // What a caller knows.
         requires frame { self.old.expected ≢ Expected.Greeting }
         requires header { self.old.partial.header ≡ None }
@@ -264,21 +259,21 @@ impl Progress {
     fn take_body<L: Ledger>(
         &mut self,
         want: &Want,
-        octets: &[u8],
+        more: &[u8],
         out: &mut Items,
         steps: &mut Steps<L>,
-    ) -> Result<(), FeedFault>
+    ) -> Fed
         // What a caller knows.
         requires frame { self.old.expected ≢ Expected.Greeting }
         requires header { IsSome self.old.partial.header }
         requires within { ForSome self.old.partial.header (λ header.
-            length self.old.partial.body + length octets.now ≤ header.size) }
+            length self.old.partial.body + length more.now ≤ header.size) }
         // What the octets add.
-        ensures ok { StandsAfter result want.now self.old self.new octets.now out.old out.new }
+        ensures ok { StandsAfter result want.now self.old self.new more.now out.old out.new }
         // What a refusal tells, and what it leaves.
-        ensures refused { NamesFault result want.now self.old octets.now out.old out.new }
+        ensures refused { NamesFault result want.now self.old more.now out.old out.new }
         // How many octets are looked at.
-        ensures looks { LooksOnce steps.old steps.new (held self.old) (held self.new) (length octets.now) result }
+        ensures looks { LooksOnce steps.old steps.new (held self.old) (held self.new) (length more.now) result }
     {
         let none = Partial::new(self.alloc);
         let Partial {
@@ -289,7 +284,7 @@ impl Progress {
         let Some(header) = header else {
             unreachable!();
         };
-        body.add(octets, steps)?;
+        body.add(more, steps)?;
         self.take_frame(want, HeadedFrame { header, head, body }, out)
     }
 
@@ -339,7 +334,7 @@ impl Progress {
         body: &[u8],
         out: &mut Items,
         steps: &mut Steps<L>,
-    ) -> Result<(), FeedFault>
+    ) -> Fed
         requires { is_content_of self.old.expected header.flags ≡ true }
         // What the frame says.
         ensures given { OnOk result (out.new ≡ out.old
@@ -415,7 +410,7 @@ impl Progress {
         octets: &[u8],
         out: &mut Items,
         steps: &mut Steps<L>,
-    ) -> Result<(), FeedFault>
+    ) -> Fed
         // What a caller knows.
         requires some { 0 < length octets.now }
         requires room { length octets.now
@@ -436,7 +431,7 @@ impl Progress {
 
     /// Takes octets from the front of these: a whole frame, where one begins there, or all of one that isn't whole but
     /// has its header, and else octets of the part that isn't whole. It gives how many it took.
-    pub fn take_turn<L: Ledger>(
+    pub(crate) fn take_turn<L: Ledger>(
         &mut self,
         want: &Want,
         octets: &[u8],

@@ -26,7 +26,7 @@ impl Model for Store {
 impl Store {
     /// The empty list, which takes no memory.
     pub fn new(alloc: Global) -> Self
-        ensures { result ≡ [] }
+        ensures empty { result ≡ [] }
     {
         Store {
             octets: Octets::new(alloc),

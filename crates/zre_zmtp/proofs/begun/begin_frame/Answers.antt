@@ -33,7 +33,7 @@ returns-clause-ok g c =
     let lt : length later < c.args.header.size = omega (arith, at.exact, parts, c.requires.unfinished) in
     let now = left-frame c.args.progress.now.expected c.args.progress.now.greeting c.of.result c.add.new.self c.requires.begun.frame
     ∙ ap (λ (x : List ℕ). x ++ c.add.new.self) c.of.ensures
-    ∙ ap (λ (x : List ℕ). head ++ x) (c.in-Ok.ensures.ok ∙ ap (λ (x : List ℕ). x ++ later) c.new-body.ensures) in
+    ∙ ap (λ (x : List ℕ). head ++ x) (c.in-Ok.ensures.ok ∙ ap (λ (x : List ℕ). x ++ later) c.new-body.ensures.empty) in
     λ want out.
     let still = waits-body want b c.args.header head later c.requires.begun.frame is fine lt in
     rw at.whole (turn_waits want b (head ++ later) out out b _ still.faultless still.partial refl refl now)
@@ -48,7 +48,7 @@ returns-clause-looks g c =
     let parts : length o ≡ length head + length later = ap length at.whole ∙ length-append head later in
     let now = left-frame c.args.progress.now.expected c.args.progress.now.greeting c.of.result c.add.new.self c.requires.begun.frame
     ∙ ap (λ (x : List ℕ). x ++ c.add.new.self) c.of.ensures
-    ∙ ap (λ (x : List ℕ). head ++ x) (c.in-Ok.ensures.ok ∙ ap (λ (x : List ℕ). x ++ later) c.new-body.ensures) in
+    ∙ ap (λ (x : List ℕ). head ++ x) (c.in-Ok.ensures.ok ∙ ap (λ (x : List ℕ). x ++ later) c.new-body.ensures.empty) in
     record {
       once = omega (arith, parts, c.in-Ok.ensures.looks);
       paid = (omega (arith, parts, ap length now, length-append head later, c.in-Ok.ensures.looks), tt);

@@ -22,22 +22,22 @@ returns-in_default-clause-ok c =
     let o = c.args.head in
     let said : header_of o ≡ None = ap header_of (sym c.as_slice.ensures) ∙ sym c.read_header.ensures ∙ c.in_default.is in
     let still = waits-no_header c.args.want.now b o c.requires.frame c.requires.faultless said in
-    let now = begun c.args.self.now o c.new-body.result c.requires.frame c.new-body.ensures in
+    let now = begun c.args.self.now o c.new-body.result c.requires.frame c.new-body.ensures.empty in
     turn_waits c.args.want.now b o c.args.out.now c.args.out.now b _ still.faultless still.partial refl refl now
 
 pub returns-clause-ok : goal.returns-clause-ok
 returns-clause-ok c =
-    rw (whole c.args.head c.args.head c.new-body.result refl c.new-body.ensures) (c.take_frame.ensures.ok c.requires.faultless)
+    rw (whole c.args.head c.args.head c.new-body.result refl c.new-body.ensures.empty) (c.take_frame.ensures.ok c.requires.faultless)
 
 pub returns-clause-refused : goal.returns-clause-refused
 returns-clause-refused c =
-    rw (whole c.args.head c.args.head c.new-body.result refl c.new-body.ensures) (c.take_frame.ensures.refused c.requires.faultless)
+    rw (whole c.args.head c.args.head c.new-body.result refl c.new-body.ensures.empty) (c.take_frame.ensures.refused c.requires.faultless)
 
 pub returns-clause-kept : goal.returns-clause-kept
-returns-clause-kept c = at_most c.take_frame.result _ _ _ (omega (arith, ap length c.new-body.ensures)) c.take_frame.ensures.kept
+returns-clause-kept c = at_most c.take_frame.result _ _ _ (omega (arith, ap length c.new-body.ensures.empty)) c.take_frame.ensures.kept
 
 pub returns-in_default-clause-kept : goal.returns-in_default-clause-kept
 returns-in_default-clause-kept c =
     let o = c.args.head in
-    let now = begun c.args.self.now o c.new-body.result c.requires.frame c.new-body.ensures in
+    let now = begun c.args.self.now o c.new-body.result c.requires.frame c.new-body.ensures.empty in
     omega (arith, ap length now)

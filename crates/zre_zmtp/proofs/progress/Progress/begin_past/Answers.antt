@@ -8,8 +8,8 @@ use Rattle.zre_zmtp.proofs.progress.Progress.begin_past.Goals as goal
 pub returns-clause-taken : goal.returns-clause-taken
 returns-clause-taken g c =
     let p = c.args.self.now in
-    let h = c.args.header in
     let o = c.args.piece.now in
+    let h = c.args.header in
     let head = c.split_at.result.0.now in
     let later = c.split_at.result.1.now in
     let front = c.split_at-2.result.0.now in

@@ -13,7 +13,7 @@ joined n o later q = sym (take-append-drop n o) ∙ ap (λ (x : List ℕ). take 
 pub returns-in_err-len-clause-refused : goal.returns-in_err-len-clause-refused
 returns-in_err-len-clause-refused g c =
     let p = err_from_is_err_and c.from_residual.result c.from_residual.ensures.1 in
-    let all = run_all c.args.want.now (before_of c.args.self.now) (left_of c.args.self.now ++ c.args.octets.now) in
+    let all = run_all c.args.want.now (before_of c.args.self.now) (left_of c.args.self.now ++ c.args.piece.now) in
     λ w.
     let amid = c.loop-rest.invariant.0 w in
     rw (p.1, p.2) (refused_turn c.args.want.now c.args.out.now c.loop-rest.out c.take_turn.new.out all (before_of c.loop-rest.self) (left_of c.loop-rest.self) c.loop-rest.rest.now [] c.loop-rest.rest.now
@@ -21,7 +21,7 @@ returns-in_err-len-clause-refused g c =
 
 pub loop-rest-preserved : goal.loop-rest-preserved
 loop-rest-preserved g c =
-    let all = run_all c.args.want.now (before_of c.args.self.now) (left_of c.args.self.now ++ c.args.octets.now) in
+    let all = run_all c.args.want.now (before_of c.args.self.now) (left_of c.args.self.now ++ c.args.piece.now) in
     let len : length c.split_at.result.1.now ≡ length c.loop-rest.rest.now - c.in_ok-len.len = ap length c.split_at.ensures.back ∙ length-drop c.in_ok-len.len c.loop-rest.rest.now in (
       λ w. (let amid = c.loop-rest.invariant.0 w in
           one_turn c.args.want.now c.args.out.now c.loop-rest.out c.take_turn.new.out all (before_of c.loop-rest.self) (before_of c.take_turn.new.self) (left_of c.loop-rest.self) (take c.in_ok-len.len c.loop-rest.rest.now) c.split_at.result.1.now
@@ -33,7 +33,7 @@ loop-rest-preserved g c =
 pub returns-clause-ok : goal.returns-clause-ok
 returns-clause-ok g c =
     let none : length c.loop-rest.rest.now ≤ 0 = omega (arith, eqb-true _ _ (sym c.loop-rest-test.ensures)) in
-    λ w. all_read c.args.want.now c.args.out.now c.loop-rest.out (before_of c.args.self.now) (left_of c.args.self.now ++ c.args.octets.now) (before_of c.loop-rest.self) (left_of c.loop-rest.self) c.loop-rest.rest.now none
+    λ w. all_read c.args.want.now c.args.out.now c.loop-rest.out (before_of c.args.self.now) (left_of c.args.self.now ++ c.args.piece.now) (before_of c.loop-rest.self) (left_of c.loop-rest.self) c.loop-rest.rest.now none
     (c.loop-rest.invariant.0 w)
 
 pub returns-clause-looks : goal.returns-clause-looks

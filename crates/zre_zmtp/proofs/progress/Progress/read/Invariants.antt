@@ -8,9 +8,9 @@ use Rattle.zre_zmtp.proofs.progress.Progress.read.Given as goal
 abbrev pub invariant-loop-rest : goal.invariant-loop-rest
 invariant-loop-rest g l =
     (Waits l.want (before_of l.fn.self) (left_of l.fn.self)
-    → IsAmid l.want l.fn.out l.out (run_all l.want (before_of l.fn.self) (left_of l.fn.self ++ l.octets)) (before_of l.self) (left_of l.self) l.rest)
-    × (l.steps + length l.rest ≤ l.fn.steps + length l.octets)
-    × IsPaidSoFar l.fn.steps l.steps (held l.fn.self) (held l.self) (length l.octets) (length l.rest)
+    → IsAmid l.want l.fn.out l.out (run_all l.want (before_of l.fn.self) (left_of l.fn.self ++ l.piece)) (before_of l.self) (left_of l.self) l.rest)
+    × (l.steps + length l.rest ≤ l.fn.steps + length l.piece)
+    × IsPaidSoFar l.fn.steps l.steps (held l.fn.self) (held l.self) (length l.piece) (length l.rest)
 
 abbrev pub decreases-loop-rest : goal.decreases-loop-rest
 decreases-loop-rest g l = length l.rest

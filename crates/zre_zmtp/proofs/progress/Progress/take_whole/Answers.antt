@@ -49,7 +49,7 @@ returns-in_err-take_frame-clause-refused g c =
     (c.of-head.ensures ∙ c.split_at.ensures.front ∙ ap (λ n. take n o) c.header_len.ensures) (c.split_at.ensures.back ∙ ap (λ n. drop n o) c.header_len.ensures) in
     let fine : header_fault b head ≡ None = ap (λ (x : List ℕ). header_fault b x) c.of-head.ensures ∙ sym c.fault_of_header.ensures ∙ c.in_default.is in
     let whole = parted o head c.split_at.result.1.now c.add.new.self _ at.whole
-    (joined _ c.split_at.result.1.now c.add.new.self (copied c.add.new.self c.new-copied.result c.split_at-2.result.0.now c.in_ok-add.ensures.ok c.new-copied.ensures ∙ c.split_at-2.ensures.front)) in
+    (joined _ c.split_at.result.1.now c.add.new.self (copied c.add.new.self c.new-copied.result c.split_at-2.result.0.now c.in_ok-add.ensures.ok c.new-copied.ensures.empty ∙ c.split_at-2.ensures.front)) in
     rw (p.1, p.2) (refused_turn c.args.want.now out out c.take_frame.new.out (run_all c.args.want.now b o) b [] (head ++ c.add.new.self) _ o c.in_err-take_frame.field-0.0 whole
     (begins c.args.want.now b [] o out (waits_from c.args.want.now b [] (no_part c.args.want.now b) (no_octets c.args.want.now b.expected b))) (c.in_err-take_frame.ensures.refused fine))
 
@@ -61,7 +61,7 @@ returns-clause-ok g c =
     let at = head_of c.args.header o head c.split_at.result.1.now c.requires.header
     (c.of-head.ensures ∙ c.split_at.ensures.front ∙ ap (λ n. take n o) c.header_len.ensures) (c.split_at.ensures.back ∙ ap (λ n. drop n o) c.header_len.ensures) in
     let fine : header_fault b head ≡ None = ap (λ (x : List ℕ). header_fault b x) c.of-head.ensures ∙ sym c.fault_of_header.ensures ∙ c.in_default.is in
-    let same = copied c.add.new.self c.new-copied.result c.split_at-2.result.0.now c.in_ok-add.ensures.ok c.new-copied.ensures in
+    let same = copied c.add.new.self c.new-copied.result c.split_at-2.result.0.now c.in_ok-add.ensures.ok c.new-copied.ensures.empty in
     let whole = parted o head c.split_at.result.1.now c.add.new.self _ at.whole
     (joined _ c.split_at.result.1.now c.add.new.self (same ∙ c.split_at-2.ensures.front)) in
     let front : take (length c.split_at.result.0.now + length c.split_at-2.result.0.now) o ≡ head ++ c.add.new.self =
@@ -104,6 +104,6 @@ returns-then-is_content-clause-kept g c =
 
 pub returns-clause-kept : goal.returns-clause-kept
 returns-clause-kept g c =
-    let same = copied c.add.new.self c.new-copied.result c.split_at-2.result.0.now c.in_ok-add.ensures.ok c.new-copied.ensures in
+    let same = copied c.add.new.self c.new-copied.result c.split_at-2.result.0.now c.in_ok-add.ensures.ok c.new-copied.ensures.empty in
     let sized : length c.add.new.self ≡ c.args.header.size = ap length same ∙ c.split_at-2.ensures.front_len in
     omega (arith, c.in_ok-take_frame.ensures.kept_whole sized, sized)
