@@ -20,7 +20,7 @@ use std::alloc::Global;
 use std::marker::{Brand, Model};
 use std::sync::ledger::{Blank, Ledger};
 use zre_values::{OutOfMemory, PeerId, take_apart};
-use zre_zmtp::{Bodies, Came, FeedFault, Items, Reader, Steps, Want};
+use zre_zmtp::{Bodies, Came, Fed, FeedFault, Items, Reader, Steps, Want};
 
 /// A connection that another node opened, read as a ROUTER: its other end has to be a DEALER whose identity is 01 and
 /// the UUID of another node.
@@ -60,7 +60,7 @@ impl Conn {
     /// other than PING are left out. A fault is told after the arrivals before it, and READY of another socket or
     /// without a good identity is one. After a refusal the connection is spent, and keeps nothing; after OutOfMemory
     /// what was appended is left open.
-    pub fn feed(&mut self, piece: &[u8], out: &mut Arrivals) -> Result<(), FeedFault>
+    pub fn feed(&mut self, piece: &[u8], out: &mut Arrivals) -> Fed
         // What a caller knows.
         requires heard { is_ignored self.old ≡ false }
         requires unspent { is_spent self.old ≡ false }
@@ -74,25 +74,43 @@ impl Conn {
         self.feed_from::<Brand>(piece, out, Blank::new(1))
     }
 
-    /// Reads a piece as `feed` does, and counts looks as a reader counts them.
-    pub fn feed_counted<L: Ledger>(
-        &mut self,
-        piece: &[u8],
-        out: &mut Arrivals,
-        steps: &mut Steps<L>,
-    ) -> Result<(), FeedFault>
+    // `feed_counted` with a counter of its own, for a caller that counts nothing.
+    fn feed_from<L: Ledger>(&mut self, piece: &[u8], out: &mut Arrivals, blank: Blank) -> Fed
         // What a caller knows.
         requires heard { is_ignored self.old ≡ false }
         requires unspent { is_spent self.old ≡ false }
+        // The counter isn't begun.
+        requires blank { IsOpenTo L.name L.parts blank.name blank.parts }
         // What the piece brings.
         ensures ok { HearsOn result self.old self.new piece.now out.old out.new }
         // What a refusal tells, and what it leaves.
         ensures refused { RefusesToHear result self.old self.new piece.now out.old out.new }
         ensures spent { is_spent self.new ≡ is_err result }
         ensures heard { is_ignored self.new ≡ false }
+    {
+        let mut steps = Steps::<L>::new(blank);
+        self.feed_counted(piece, out, &mut steps)
+    }
+
+    /// Reads a piece as `feed` does, and counts looks as a reader counts them.
+    pub fn feed_counted<L: Ledger>(
+        &mut self,
+        piece: &[u8],
+        out: &mut Arrivals,
+        steps: &mut Steps<L>,
+    ) -> Fed
+        // What a caller knows.
+        requires heard { is_ignored self.old ≡ false }
+        requires unspent { is_spent self.old ≡ false }
         // How many octets are looked at.
         ensures once { steps.new ≤ steps.old + length piece.now }
         ensures looks { Looks steps.old steps.new (kept_of self.old) (kept_of self.new) (length piece.now) result }
+        // What the piece brings.
+        ensures ok { HearsOn result self.old self.new piece.now out.old out.new }
+        // What a refusal tells, and what it leaves.
+        ensures refused { RefusesToHear result self.old self.new piece.now out.old out.new }
+        ensures spent { is_spent self.new ≡ is_err result }
+        ensures heard { is_ignored self.new ≡ false }
     {
         let mut items = Items::new(self.alloc);
         let fed = self.feed_items(piece, &mut items, steps);
@@ -112,11 +130,11 @@ impl Conn {
         piece: &[u8],
         items: &mut Items,
         steps: &mut Steps<L>,
-    ) -> Result<(), FeedFault>
+    ) -> Fed
         // What a caller knows.
+        requires empty { items.old ≡ [] }
         requires heard { is_ignored self.old ≡ false }
         requires unspent { is_spent self.old ≡ false }
-        requires empty { items.old ≡ [] }
         // What the piece brings.
         ensures ok { (own : PeerIdValue) (o : List ℕ) → self.old ≡ conn_after own o →
             OnOk result ((fault_in own (o ++ piece.now) ≡ None)
@@ -178,28 +196,6 @@ impl Conn {
         ensures { self.new ≡ record self.old { phase = SpentPhase } }
     {
         self.phase = Phase::Spent;
-    }
-
-    // `feed_counted` with a counter of its own, for a caller that counts nothing.
-    fn feed_from<L: Ledger>(
-        &mut self,
-        piece: &[u8],
-        out: &mut Arrivals,
-        blank: Blank,
-    ) -> Result<(), FeedFault>
-        // What a caller knows.
-        requires blank { IsOpenTo L.name L.parts blank.name blank.parts }
-        requires heard { is_ignored self.old ≡ false }
-        requires unspent { is_spent self.old ≡ false }
-        // What the piece brings.
-        ensures ok { HearsOn result self.old self.new piece.now out.old out.new }
-        // What a refusal tells, and what it leaves.
-        ensures refused { RefusesToHear result self.old self.new piece.now out.old out.new }
-        ensures spent { is_spent self.new ≡ is_err result }
-        ensures heard { is_ignored self.new ≡ false }
-    {
-        let mut steps = Steps::<L>::new(blank);
-        self.feed_counted(piece, out, &mut steps)
     }
 
     /// From now on nothing that comes is looked at. All octets are given up; the identity stays.
