@@ -10,7 +10,7 @@ use Rattle.zre_peer.specs.declared.view.View.{View}
 use Rattle.zre_peer.specs.declared.peer_run.Run.{Run}
 use Rattle.zre_peer.specs.declared.peer_run.RunFault.{RunFault}
 use Rattle.zre_peer.specs.declared.peer_run.RunFault.TheVariants as faults
-use Rattle.zre_peer.specs.Later.{goes_on, later_fault}
+use Rattle.zre_peer.specs.Later.{goes_on, later_fault, RefusesLater}
 use Rattle.zre_peer.specs.Runs.{due, is_hello, may_follow, fault_of, shown, in_order, in_order_after}
 use Rattle.zre_peer.specs.Standing.{Stands}
 use Rattle.zre_peer.specs.Views.{view_of, after, blank}
@@ -116,3 +116,13 @@ on_all r (Err e) is a b c f = rw is tt
 pub if_passed : {E : Type 0} {P R : E → Type 0} (r q : Result (Unit {0}) E) → r ≡ q → IfErr q P → ((e : E) → P e → R e) → IfErr r R
 if_passed r (Ok x) is p f = rw is tt
 if_passed r (Err e) is p f = rw is (f e p)
+
+-- a message after the first was refused, and the answer was passed on
+pub refused_on : {A : Type 0} (r : Run) (ms : List Message) (v : View) (m : Message) (next : ℕ) (result taken : Result (Unit {0}) RunFault) (told told' : List A) → Stands r ms → r.view ≡ Some v → next ≡ (r.count + 1) % 65536
+    → result ≡ taken → RefusesLater taken v next m told told'
+    → IfErr result (λ e. e ≢ faults.OutOfMemory → (may_follow ms m ≡ false) × (e ≡ fault_of ms m) × (told' ≡ told))
+refused_on r ms v m next result taken told told' s is next_is same refused =
+    if_passed result taken same refused (λ e why ne.
+    let h = why ne in
+    let f = refused_later r ms v m next e s is next_is h.0 h.1 in
+    (f.0, f.1, h.2))

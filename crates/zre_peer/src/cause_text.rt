@@ -81,15 +81,21 @@ pub(crate) fn push_close(out: &mut Octets, why: CloseWhy) -> Result<(), OutOfMem
     }
 }
 
+fn ignore_name(why: IgnoreWhy) -> &'static [u8]
+    ensures { result.now ≡ ignore_text why }
+{
+    match why {
+        IgnoreWhy::NotHello => b"NotHello",
+        IgnoreWhy::Limit => b"Limit",
+        IgnoreWhy::NoEndpoint => b"NoEndpoint",
+        IgnoreWhy::Full => b"Full",
+    }
+}
+
 pub(crate) fn push_ignore(out: &mut Octets, why: IgnoreWhy) -> Result<(), OutOfMemory>
     ensures { OnOk result (out.new ≡ out.old ++ ignore_text why) }
 {
-    match why {
-        IgnoreWhy::NotHello => out.append(b"NotHello"),
-        IgnoreWhy::Limit => out.append(b"Limit"),
-        IgnoreWhy::NoEndpoint => out.append(b"NoEndpoint"),
-        IgnoreWhy::Full => out.append(b"Full"),
-    }
+    out.append(ignore_name(why))
 }
 
 // A word and a group.

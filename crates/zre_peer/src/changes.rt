@@ -1,6 +1,6 @@
 //! What a message after HELLO does to the view, and what it tells.
 
-ghost use Rattle.std.specs.Prelude.{ℕ, ◌≡◌, ◌++◌, true, IfOk, IfErr, OnOk, OnErr};
+ghost use Rattle.std.specs.Prelude.{ℕ, ◌≡◌, ◌++◌, true, false, IfOk, IfErr, OnOk, OnErr};
 ghost use Rattle.zre_msg.specs.declared.message.Body.TheVariants as bodies;
 ghost use Rattle.zre_msg.specs.Content.{content_of};
 ghost use Rattle.zre_msg.specs.Lent.{message_of};
@@ -10,7 +10,7 @@ ghost use Rattle.zre_peer.specs.Views.{after, is_small};
 
 use crate::event::{Event, Events};
 use crate::hello::push_join;
-use crate::peer_run::RunFault;
+use crate::peer_run::{Answer, RunFault};
 use crate::view::View;
 use std::alloc::Global;
 use zre_msg::{LentBody, LentContent, LentMessage};
@@ -18,15 +18,28 @@ use zre_values::{Octets, OutOfMemory, PeerId};
 
 impl View {
     // Whether the view stays within the limits with one more group.
-    pub(crate) fn can_join(&self, group: &[u8]) -> bool
+    fn can_join(&self, group: &[u8]) -> bool
         requires { is_small self.now ≡ true }
         ensures { (status : ℕ) → result ≡ is_small (after self.now (bodies.Join group.now status)) }
     {
         self.groups.has_room(group)
     }
 
+    // Refuses a JOIN with which the view would pass a limit.
+    pub(crate) fn expect_room(&self, group: &[u8]) -> Answer
+        requires { is_small self.now ≡ true }
+        ensures ok { (status : ℕ) → OnOk result (is_small (after self.now (bodies.Join group.now status)) ≡ true) }
+        ensures refused { (status : ℕ) → IfErr result (λ e.
+            (is_small (after self.now (bodies.Join group.now status)) ≡ false) × (e ≡ RunFault.Limit)) }
+    {
+        if !self.can_join(group) {
+            return Err(RunFault::Limit);
+        }
+        Ok(())
+    }
+
     /// Adds the group of a JOIN. After an error the view is as it was.
-    pub(crate) fn join(&mut self, alloc: Global, group: &[u8], status: u8) -> Result<(), RunFault>
+    pub(crate) fn join(&mut self, alloc: Global, group: &[u8], status: u8) -> Answer
         ensures ok { OnOk result (self.new ≡ after self.old (bodies.Join group.now status)) }
         ensures kept { OnErr result (self.new ≡ self.old) }
         ensures refused { IfErr result (λ e. e ≡ RunFault.OutOfMemory) }
@@ -108,7 +121,7 @@ impl View {
         id: PeerId,
         lent: &LentMessage<'_>,
         events: &mut Events,
-    ) -> Result<(), RunFault>
+    ) -> Answer
         // The view is within its limits.
         requires { is_small self.old ≡ true }
         // The view and the events after it.
@@ -120,9 +133,7 @@ impl View {
     {
         match lent.command {
             LentBody::Join { group, status } => {
-                if !self.can_join(group) {
-                    return Err(RunFault::Limit);
-                }
+                self.expect_room(group)?;
                 push_join(alloc, events, id, &self.name, group)?;
                 self.join(alloc, group, status)
             }

@@ -37,13 +37,6 @@ impl Headers {
         }
     }
 
-    /// How many there are, by distinct names.
-    pub fn len(&self) -> usize
-        ensures { result ≡ length self.now }
-    {
-        self.named.len()
-    }
-
     /// The name and the value at a place.
     pub fn get(&self, i: usize) -> (&[u8], &[u8])
         requires { i < length self.now }
@@ -51,6 +44,13 @@ impl Headers {
     {
         let (name, value) = self.named.get_index(i).unwrap();
         (name.as_slice(), value.as_slice())
+    }
+
+    /// How many there are, by distinct names.
+    pub fn len(&self) -> usize
+        ensures { result ≡ length self.now }
+    {
+        self.named.len()
     }
 
     /// Whether there are few enough with a header of this name. Where they are fewer than the limit, none is looked at.

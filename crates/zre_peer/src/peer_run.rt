@@ -44,6 +44,9 @@ pub enum RunFault {
     OutOfMemory,
 }
 
+/// What a run answers to a message: nothing, or why it doesn't belong to the run.
+pub type Answer = Result<(), RunFault>;
+
 impl From<OutOfMemory> for RunFault {
     ghost from_gives = { λ _ e. e ≡ faults.OutOfMemory };
 
@@ -101,7 +104,7 @@ fn first(
     Ok(view)
 }
 
-fn expect_number(due: u16, got: u16) -> Result<(), RunFault>
+fn expect_number(due: u16, got: u16) -> Answer
     ensures ok { OnOk result (got ≡ due) }
     ensures refused { IfErr result (λ e. (got ≢ due) × (e ≡ RunFault.Broken due got)) }
 {
@@ -122,9 +125,9 @@ impl View {
         due: u16,
         lent: &LentMessage<'_>,
         events: &mut Events,
-    ) -> Result<(), RunFault>
+    ) -> Answer
         // The view is within its limits.
-        requires { is_small self.old ≡ true }
+        requires small { is_small self.old ≡ true }
         // It is the next one: the view and the events after it.
         ensures ok { OnOk result ((goes_on self.old due (message_of lent.now) ≡ true)
             × (self.new ≡ after self.old (message_of lent.now).body)
@@ -148,9 +151,9 @@ impl View {
         lent: &LentMessage<'_>,
         heads: &Heads,
         out: &mut Octets,
-    ) -> Result<(), RunFault>
+    ) -> Answer
         // The view is within its limits.
-        requires { is_small self.old ≡ true }
+        requires small { is_small self.old ≡ true }
         // It is the next one: the view after it, and the lines.
         ensures ok { OnOk result ((goes_on self.old due (message_of lent.now) ≡ true)
             × (self.new ≡ after self.old (message_of lent.now).body)) }
@@ -217,7 +220,7 @@ impl Run {
     // What is kept of an answer: a message that was taken is counted, with this number, and after a refusal no further
     // one is taken. Lack of memory changes nothing.
     #[inline(always)]
-    fn settle(&mut self, number: u16, answer: Result<(), RunFault>) -> Result<(), RunFault>
+    fn settle(&mut self, number: u16, answer: Answer) -> Answer
         requires { is_spent self.old ≡ false }
         ensures same { result ≡ answer }
         ensures ok { OnOk answer (self.new ≡ record self.old { count = number }) }
@@ -255,7 +258,7 @@ impl Run {
     }
 
     /// Takes the next message and appends its events to a list. After `OutOfMemory` some of them may stand there.
-    pub fn take(&mut self, mut message: Message, events: &mut Events) -> Result<(), RunFault>
+    pub fn take(&mut self, mut message: Message, events: &mut Events) -> Answer
         requires { is_spent self.old ≡ false }
         // It is the next one: its events, and the view of a HELLO.
         ensures first { view_in self.old ≡ None → OnOk result (
@@ -276,11 +279,7 @@ impl Run {
     }
 
     /// Takes the next message as `take` does; what a HELLO holds is taken out of it.
-    pub(crate) fn take_from(
-        &mut self,
-        message: &mut Message,
-        events: &mut Events,
-    ) -> Result<(), RunFault>
+    pub(crate) fn take_from(&mut self, message: &mut Message, events: &mut Events) -> Answer
         requires { is_spent self.old ≡ false }
         // It is the next one: its events, and the view of a HELLO.
         ensures first { view_in self.old ≡ None → OnOk result (
@@ -312,7 +311,7 @@ impl Run {
     }
 
     /// Takes a message after HELLO that lies in its frames: its fields and its content are copied once, into its event.
-    pub fn take_lent(&mut self, lent: &LentMessage<'_>, events: &mut Events) -> Result<(), RunFault>
+    pub fn take_lent(&mut self, lent: &LentMessage<'_>, events: &mut Events) -> Answer
         requires going { is_spent self.old ≡ false }
         requires later { is_some (view_in self.old) ≡ true }
         // It is the next one: its events.
@@ -337,12 +336,7 @@ impl Run {
 
     /// Takes a message after HELLO that lies in its frames, and appends the lines of its events to a text; they begin
     /// with `heads`. After `OutOfMemory` a front of them may stand there.
-    pub(crate) fn tell(
-        &mut self,
-        lent: &LentMessage<'_>,
-        heads: &Heads,
-        out: &mut Octets,
-    ) -> Result<(), RunFault>
+    pub(crate) fn tell(&mut self, lent: &LentMessage<'_>, heads: &Heads, out: &mut Octets) -> Answer
         // The run has taken HELLO and refused nothing, and these begin its lines.
         requires going { is_spent self.old ≡ false }
         requires later { is_some (view_in self.old) ≡ true }

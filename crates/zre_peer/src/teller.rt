@@ -12,7 +12,7 @@ use crate::event::Events;
 use crate::heads::Heads;
 use crate::lending::lent;
 use crate::line::push_lines;
-use crate::peer_run::{Run, RunFault};
+use crate::peer_run::{Answer, Run};
 use std::alloc::Global;
 use std::marker::Model;
 use zre_msg::{Body, LentMessage, Message};
@@ -90,7 +90,7 @@ impl Teller {
 
     /// Takes the next message, and appends the lines of its events. After `OutOfMemory` a front of them may stand
     /// there, and nothing is said of the run.
-    pub fn take(&mut self, mut message: Message, out: &mut Octets) -> Result<(), RunFault>
+    pub fn take(&mut self, mut message: Message, out: &mut Octets) -> Answer
         // Nothing was refused.
         requires { is_spent self.old ≡ false }
         // It is the next one, and its lines; or it isn't, and the fault.
@@ -114,7 +114,7 @@ impl Teller {
     }
 
     /// Takes a message after HELLO, of which the run keeps nothing, and appends the lines of its events.
-    pub fn take_later(&mut self, message: &Message, out: &mut Octets) -> Result<(), RunFault>
+    pub fn take_later(&mut self, message: &Message, out: &mut Octets) -> Answer
         // HELLO was taken, and nothing refused.
         requires going { is_spent self.old ≡ false }
         requires later { is_some (view_in self.old) ≡ true }
@@ -128,7 +128,7 @@ impl Teller {
     }
 
     /// Takes a message after HELLO that lies in its frames, and appends the lines of its events.
-    pub fn take_lent(&mut self, lent: &LentMessage<'_>, out: &mut Octets) -> Result<(), RunFault>
+    pub fn take_lent(&mut self, lent: &LentMessage<'_>, out: &mut Octets) -> Answer
         // HELLO was taken, and nothing refused.
         requires going { is_spent self.old ≡ false }
         requires later { is_some (view_in self.old) ≡ true }
@@ -138,7 +138,7 @@ impl Teller {
         self.run.tell(lent, &self.heads, out)
     }
 
-    fn take_first(&mut self, message: &mut Message, out: &mut Octets) -> Result<(), RunFault>
+    fn take_first(&mut self, message: &mut Message, out: &mut Octets) -> Answer
         // Nothing was taken or refused.
         requires going { is_spent self.old ≡ false }
         requires first { is_some (view_in self.old) ≡ false }

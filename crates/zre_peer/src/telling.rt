@@ -13,7 +13,7 @@ ghost use Rattle.zre_values.specs.declared.peer_id.PeerId.{PeerId};
 
 use crate::heads::Heads;
 use crate::line::{push_content_end, push_group_end};
-use crate::peer_run::RunFault;
+use crate::peer_run::Answer;
 use crate::view::View;
 use std::alloc::Global;
 use zre_msg::{LentBody, LentContent, LentMessage};
@@ -75,7 +75,7 @@ impl View {
         lent: &LentMessage<'_>,
         heads: &Heads,
         out: &mut Octets,
-    ) -> Result<(), RunFault>
+    ) -> Answer
         // The view is within its limits.
         requires { is_small self.old ≡ true }
         // The view after it, and the lines of its events.
@@ -87,9 +87,7 @@ impl View {
     {
         match lent.command {
             LentBody::Join { group, status } => {
-                if !self.can_join(group) {
-                    return Err(RunFault::Limit);
-                }
+                self.expect_room(group)?;
                 push_group(out, &heads.join, group)?;
                 self.join(alloc, group, status)
             }

@@ -1,9 +1,10 @@
 use Rattle.std.proofs.Common.{◌++◌, [], ◌∷◌, ap, sym, subst, ◌∙◌}
+use Rattle.std.proofs.lemmas.Result.{IfErr-weaker}
 use Rattle.zre_msg.specs.Lent.{message_of}
 use Rattle.zre_peer.specs.declared.peer_run.Run.{Run}
 use Rattle.zre_peer.specs.Runs.{events_of}
 use Rattle.zre_peer.specs.Standing.{Stands}
-use Rattle.zre_peer.proofs.Standing.{taken_later, refused_later, in_order-refused, later_never, view_of_run, on_both, if_passed}
+use Rattle.zre_peer.proofs.Standing.{taken_later, refused_on, in_order-refused, later_never, view_of_run, on_both, if_passed}
 use Rattle.zre_peer.proofs.peer_run.Run.take_lent.Goals as goal
 
 pub returns-clause-ok : goal.returns-clause-ok
@@ -17,10 +18,8 @@ returns-clause-ok c = λ ms s.
 pub returns-clause-refused : goal.returns-clause-refused
 returns-clause-refused c = λ ms s.
     let m = message_of c.args.lent.now in
-    if_passed c.settle.result c.later-taken.result c.settle.ensures.same c.later-taken.ensures.refused (λ e why ne.
-    let h = why ne in
-    let f = refused_later c.args.self.now ms c.in-Some.view m _ _ s c.in-Some.is c.due-next.ensures h.0 h.1 in
-    (f.0, in_order-refused [] ms m f.0, f.1, h.2))
+    IfErr-weaker c.settle.result _ _ (λ e w ne. (let f = w ne in (f.0, in_order-refused [] ms m f.0, f.1, f.2)))
+    (refused_on c.args.self.now ms c.in-Some.view m _ c.settle.result c.later-taken.result _ _ s c.in-Some.is c.due-next.ensures c.settle.ensures.same c.later-taken.ensures.refused)
 
 pub returns-clause-never : goal.returns-clause-never
 returns-clause-never c =

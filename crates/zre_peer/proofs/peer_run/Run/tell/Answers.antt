@@ -4,7 +4,7 @@ use Rattle.zre_peer.specs.declared.peer_run.Run.{Run}
 use Rattle.zre_peer.specs.Lines.{lines}
 use Rattle.zre_peer.specs.Runs.{events_of}
 use Rattle.zre_peer.specs.Standing.{Stands}
-use Rattle.zre_peer.proofs.Standing.{taken_later, refused_later, view_of_run, on_all, if_passed}
+use Rattle.zre_peer.proofs.Standing.{taken_later, refused_on, view_of_run, on_all}
 use Rattle.zre_peer.proofs.peer_run.Run.tell.Goals as goal
 
 pub returns-clause-ok : goal.returns-clause-ok
@@ -18,8 +18,4 @@ returns-clause-ok c = λ ms s.
 
 pub returns-clause-refused : goal.returns-clause-refused
 returns-clause-refused c = λ ms s.
-    let m = message_of c.args.lent.now in
-    if_passed c.settle.result c.tell_later-taken.result c.settle.ensures.same c.tell_later-taken.ensures.refused (λ e why ne.
-    let h = why ne in
-    let f = refused_later c.args.self.now ms c.in-Some.view m _ _ s c.in-Some.is c.due-next.ensures h.0 h.1 in
-    (f.0, f.1, h.2))
+    refused_on c.args.self.now ms c.in-Some.view (message_of c.args.lent.now) _ c.settle.result c.tell_later-taken.result _ _ s c.in-Some.is c.due-next.ensures c.settle.ensures.same c.tell_later-taken.ensures.refused
