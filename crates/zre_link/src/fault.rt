@@ -16,14 +16,6 @@ pub enum PushFault {
     OutOfMemory,
 }
 
-impl From<zre_values::OutOfMemory> for PushFault {
-    ghost from_gives = { λ _ e. e ≡ NoMemory };
-
-    fn from(_: zre_values::OutOfMemory) -> Self {
-        PushFault::OutOfMemory
-    }
-}
-
 /// Why a piece of replies was refused.
 #[derive(Clone, Copy, Debug, PartialEq, Eq)]
 pub enum ReplyFault {
@@ -34,6 +26,14 @@ pub enum ReplyFault {
     Slow { unsent: u64, size: u64 },
     /// No memory was left, or a count of the link is at its end.
     OutOfMemory,
+}
+
+impl From<zre_values::OutOfMemory> for PushFault {
+    ghost from_gives = { λ _ e. e ≡ NoMemory };
+
+    fn from(_: zre_values::OutOfMemory) -> Self {
+        PushFault::OutOfMemory
+    }
 }
 
 impl From<zre_values::OutOfMemory> for ReplyFault {

@@ -15,7 +15,7 @@ use std::alloc::Global;
 use std::marker::Model;
 use std::sync::ledger::Ledger;
 use zre_values::take_apart;
-use zre_zmtp::{FeedFault, Items, Reader, Steps, Want};
+use zre_zmtp::{Fed, FeedFault, Items, Reader, Steps, Want};
 
 /// The replies on a link, read as the stream of a ROUTER.
 pub struct Replies {
@@ -45,7 +45,7 @@ impl Awaits {
         piece: &[u8],
         out: &mut Items,
         steps: &mut Steps<L>,
-    ) -> Result<(), FeedFault>
+    ) -> Fed
         requires { out.old ≡ [] }
         // What the piece brings.
         ensures ok { (o : List ℕ) → IsAfter Router Whole o reader.old → expected_of self.old ≡ awaited o →
@@ -84,12 +84,7 @@ impl Replies {
     }
 
     /// Reads one more piece into an empty list. A refusal stays, and is told of each further piece.
-    pub fn feed<L: Ledger>(
-        &mut self,
-        piece: &[u8],
-        out: &mut Items,
-        steps: &mut Steps<L>,
-    ) -> Result<(), FeedFault>
+    pub fn feed<L: Ledger>(&mut self, piece: &[u8], out: &mut Items, steps: &mut Steps<L>) -> Fed
         // The list is empty.
         requires { out.old ≡ [] }
         // What is read, and what becomes whole.
