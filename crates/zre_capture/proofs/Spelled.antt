@@ -135,6 +135,10 @@ group_of-some field v e = octets-found quoted (unquoted field) field v e
 
 -- ---- hexadecimal digits
 
+pub hex_of-some : (field v : List ℕ) → hex_of field ≡ Some v → IsTextOf AreOctets hex_text v field
+unfolding hex_of
+hex_of-some field v e = octets-found hex_text (decoded field) field v e
+
 octet_at : (v : List ℕ) → All (λ b. b < 2 ^ 8) v → (i : ℕ) → get_or v i 0 < 256
 octet_at [] h i = omega arith
 octet_at (b ∷ v) h zero = All-head (λ n. n < 2 ^ 8) b v h
@@ -151,10 +155,6 @@ hex-decoded (b ∷ v) h = ap (λ (r : Result (List ℕ) FromHexError). result_un
 pub hex_of-text : (v : List ℕ) → All (λ b. b < 2 ^ 8) v → hex_of (hex_text v) ≡ Some v
 unfolding hex_of
 hex_of-text v h = octets-spelled hex_text (decoded (hex_text v)) v (hex-decoded v h) h
-
-pub hex_of-some : (field v : List ℕ) → hex_of field ≡ Some v → IsTextOf AreOctets hex_text v field
-unfolding hex_of
-hex_of-some field v e = octets-found hex_text (decoded field) field v e
 
 -- ---- addresses
 

@@ -153,10 +153,10 @@ settings_with plain name headers = do
   pairs ← headers_of headers
   Some (record {
     id = plain.id;
-    name = called;
-    headers = pairs;
     host = plain.host;
     port = plain.port;
+    name = called;
+    headers = pairs;
     evasive = plain.evasive;
     expired = plain.expired;
   })

@@ -3,7 +3,10 @@
 ghost use Rattle.std.specs.Prelude.{◌≡◌, ◌+◌, ◌*◌, ◌≤◌, ◌++◌, length};
 ghost use Rattle.zre_capture.specs.Draws.{drawn, upper_half, after_draws, octets_drawn};
 
-use crate::message_octets::{MessageOctets, ROOM};
+use zre_values::FewOctets;
+
+/// As many octets as a message of the exercise has at most.
+pub(crate) const ROOM: usize = 48;
 
 const FACTOR: u64 = 6364136223846793005;
 
@@ -28,7 +31,7 @@ pub(crate) fn upper_half(x: u64) -> u32
 
 /// Appends what so many draws give, and tells where the draws stand after them.
 #[inline(always)]
-pub(crate) fn push_drawn(out: &mut MessageOctets, count: u8, from: u64) -> u64
+pub(crate) fn push_drawn(out: &mut FewOctets<ROOM>, count: u8, from: u64) -> u64
     requires { length out.old + 4 * count ≤ ROOM }
     ensures after { result ≡ after_draws count from }
     ensures octets { out.new ≡ out.old ++ octets_drawn count from }

@@ -3,14 +3,13 @@
 ghost use Rattle.std.specs.Prelude.{◌≡◌, ◌≢◌, ◌≤◌, ◌+◌, ◌%◌, ◌∷◌, length, IfOk, OnErr, MatchOption};
 ghost use Rattle.zre_capture.specs.declared.stage.ExerciseStage.TheVariants.{Messages};
 
-use crate::draws::{drawn, upper_half};
+use crate::draws::{ROOM, drawn, upper_half};
 use crate::introduction::{heard, introduced, opened};
-use crate::message_octets::MessageOctets;
 use crate::stage::ExerciseStage;
 use crate::talk::{cut_by, spell};
 use std::alloc::Global;
 use zre_outside::{Command, Entry, Input};
-use zre_values::{Octets, OutOfMemory};
+use zre_values::{FewOctets, Octets, OutOfMemory};
 
 /// A generator of a large journal from a number: peers come and introduce themselves, and their messages come in turn.
 /// It keeps one message, and no list of the entries.
@@ -25,7 +24,7 @@ pub struct Exercise {
     /// The number of the next message.
     message: u32,
     /// The octets of the message that was spelled last.
-    spelled: MessageOctets,
+    spelled: FewOctets<ROOM>,
     /// How many of them come in the first piece.
     cut: usize,
     ghost some: { 1 ≤ peers },
@@ -53,7 +52,7 @@ impl Exercise {
             peers,
             messages,
             message: 0,
-            spelled: MessageOctets::new(),
+            spelled: FewOctets::new(),
             cut: 0,
         }
     }

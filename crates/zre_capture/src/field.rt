@@ -82,8 +82,7 @@ fn command_form(word: CommandWord) -> &'static [Field]
     ensures { result.now ≡ command_form word }
 {
     match word {
-        CommandWord::Join => &[Field::Group],
-        CommandWord::Leave => &[Field::Group],
+        CommandWord::Join | CommandWord::Leave => &[Field::Group],
         CommandWord::Whisper => &[Field::Id, Field::Frames],
         CommandWord::Shout => &[Field::Group, Field::Frames],
         CommandWord::Bad => &[Field::Number],
@@ -96,16 +95,13 @@ fn input_form(word: InputWord) -> &'static [Field]
 {
     match word {
         InputWord::Datagram => &[Field::Address, Field::Hex],
-        InputWord::Opened => &[Field::Number],
-        InputWord::Piece => &[Field::Number, Field::Hex],
-        InputWord::Shut => &[Field::Number],
-        InputWord::Linked => &[Field::Number],
-        InputWord::Reply => &[Field::Number, Field::Hex],
-        InputWord::Unlinked => &[Field::Number],
+        InputWord::Opened | InputWord::Shut | InputWord::Linked | InputWord::Unlinked => {
+            &[Field::Number]
+        }
+        InputWord::Piece | InputWord::Reply => &[Field::Number, Field::Hex],
         InputWord::Took => &[Field::Number, Field::Number],
-        InputWord::Tick => &[],
         InputWord::Do => &[Field::Command],
-        InputWord::End => &[],
+        InputWord::Tick | InputWord::End => &[],
     }
 }
 

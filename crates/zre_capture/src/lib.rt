@@ -18,7 +18,6 @@ mod line;
 mod line_start;
 mod list;
 mod macros;
-mod message_octets;
 mod pairs;
 mod read;
 mod reader;

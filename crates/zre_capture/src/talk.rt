@@ -6,8 +6,8 @@ ghost use Rattle.zre_msg.specs.Spelling.{head, string};
 ghost use Rattle.zre_capture.specs.Draws.{after_draws, octets_drawn};
 ghost use Rattle.zre_capture.specs.Exercise.{changes, status, after_content, spelling};
 
-use crate::draws::push_drawn;
-use crate::message_octets::{MessageOctets, ROOM};
+use crate::draws::{ROOM, push_drawn};
+use zre_values::FewOctets;
 
 // How many of the first messages of a peer, up to this one, are JOIN or LEAVE.
 #[tactic(auto, using(crate::proofs::Talking::changes_by_leave, crate::proofs::Talking::changes_by_others))]
@@ -39,7 +39,7 @@ fn sequence(k: u32) -> u16
 
 // JOIN or LEAVE of the group, in place of what stands there.
 #[inline(always)]
-fn spell_change(out: &mut MessageOctets, command: u8, k: u32)
+fn spell_change(out: &mut FewOctets<ROOM>, command: u8, k: u32)
     ensures { out.new ≡ frame 0 (head command ((2 + k) % 65536) ++ (string (codes "all") ++ status k ∷ [])) }
 {
     out.clear();
@@ -50,7 +50,7 @@ fn spell_change(out: &mut MessageOctets, command: u8, k: u32)
 
 // The first frame of a SHOUT to the group, in place of what stands there.
 #[inline(always)]
-fn spell_shout(out: &mut MessageOctets, k: u32)
+fn spell_shout(out: &mut FewOctets<ROOM>, k: u32)
     ensures { out.new ≡ frame 1 (head 3 ((2 + k) % 65536) ++ string (codes "all")) }
 {
     out.clear();
@@ -61,7 +61,7 @@ fn spell_shout(out: &mut MessageOctets, k: u32)
 
 // The first frame of a WHISPER, in place of what stands there.
 #[inline(always)]
-fn spell_whisper(out: &mut MessageOctets, k: u32)
+fn spell_whisper(out: &mut FewOctets<ROOM>, k: u32)
     ensures { out.new ≡ frame 1 (head 2 ((2 + k) % 65536)) }
 {
     out.clear();
@@ -71,7 +71,7 @@ fn spell_whisper(out: &mut MessageOctets, k: u32)
 
 // Appends the frame of a content whose draws begin at x, and tells where they stand after it.
 #[inline(always)]
-fn push_content(out: &mut MessageOctets, x: u64) -> u64
+fn push_content(out: &mut FewOctets<ROOM>, x: u64) -> u64
     requires { length out.old ≤ 14 }
     ensures octets { out.new ≡ out.old ++ frame 0 (octets_drawn 8 x) }
     ensures after { result ≡ after_draws 8 x }
@@ -83,7 +83,7 @@ fn push_content(out: &mut MessageOctets, x: u64) -> u64
 /// The octets of message k of a peer, whose draws begin at x, in place of what stands there; and where the draws stand
 /// after its content.
 #[inline(always)]
-pub(crate) fn spell(out: &mut MessageOctets, k: u32, x: u64) -> u64
+pub(crate) fn spell(out: &mut FewOctets<ROOM>, k: u32, x: u64) -> u64
     ensures octets { out.new ≡ spelling k x }
     ensures after { result ≡ after_content k x }
 {

@@ -39,16 +39,9 @@ pub fn input_word(field: &[u8]) -> Option<InputWord>
 {
     find_word!(field;
         b"datagram" InputWord::Datagram,
-        b"opened" InputWord::Opened,
-        b"piece" InputWord::Piece,
-        b"shut" InputWord::Shut,
-        b"linked" InputWord::Linked,
-        b"reply" InputWord::Reply,
-        b"unlinked" InputWord::Unlinked,
-        b"took" InputWord::Took,
-        b"tick" InputWord::Tick,
-        b"do" InputWord::Do,
-        b"end" InputWord::End)
+        b"opened" InputWord::Opened, b"piece" InputWord::Piece, b"shut" InputWord::Shut,
+        b"linked" InputWord::Linked, b"reply" InputWord::Reply, b"unlinked" InputWord::Unlinked,
+        b"took" InputWord::Took, b"tick" InputWord::Tick, b"do" InputWord::Do, b"end" InputWord::End)
 }
 
 /// The word of a command, if the field is one.
@@ -57,10 +50,7 @@ pub fn command_word(field: &[u8]) -> Option<CommandWord>
     ensures { result ≡ command_word_of field.now }
 {
     find_word!(field;
-        b"join" CommandWord::Join,
-        b"leave" CommandWord::Leave,
-        b"whisper" CommandWord::Whisper,
-        b"shout" CommandWord::Shout,
-        b"bad" CommandWord::Bad,
-        b"quit" CommandWord::Quit)
+        b"join" CommandWord::Join, b"leave" CommandWord::Leave,
+        b"whisper" CommandWord::Whisper, b"shout" CommandWord::Shout,
+        b"bad" CommandWord::Bad, b"quit" CommandWord::Quit)
 }
