@@ -30,12 +30,6 @@ pub struct Replica {
     alloc: Global,
 }
 
-impl Drop for Replica {
-    fn drop(self) {
-        take_apart!(self, Replica: writes, greatest, id, alloc);
-    }
-}
-
 impl Model for Replica {
     ghost use Rattle.std.specs.Map.{values_of};
     ghost use Rattle.zre_shared.specs.Replicas.{HeldWrites};
@@ -46,6 +40,12 @@ impl Model for Replica {
     ghost view = { λ replica. record { id = replica.id; writes = values_of replica.writes.entries } };
 
     ghost invariant = { λ replica. IsKept replica.writes replica.greatest replica.id };
+}
+
+impl Drop for Replica {
+    fn drop(self) {
+        take_apart!(self, Replica: writes, greatest, id, alloc);
+    }
 }
 
 /// Why a write isn't made. Nothing has changed then.
