@@ -6,10 +6,10 @@ use Rattle.zre_values.specs.declared.settings.Settings.{Settings as Config}
 abbrev pub settings : Config
 settings = record {
   id = record { 0 = replicate 16 255 };
-  name = codes "node";
-  headers = [];
   host = 10 ∷ 0 ∷ 0 ∷ 1 ∷ [];
   port = 49152;
+  name = codes "node";
+  headers = [];
   evasive = 5000;
   expired = 30000;
 }

@@ -16,9 +16,9 @@ use Rattle.zre_peer.specs.declared.view.View.{View}
 
 -- the cause of an EXIT, by why a message doesn't belong to the run
 abbrev pub cause_of : RunFault → Cause
+cause_of (faults.Broken due got) = causes.Order due got
 cause_of faults.NotHello = causes.Hello
 cause_of faults.SecondHello = causes.Hello
-cause_of (faults.Broken due got) = causes.Order due got
 cause_of faults.Limit = causes.Limit
 cause_of faults.OutOfMemory = causes.Limit
 

@@ -1,4 +1,6 @@
 ghost use Rattle.std.specs.Prelude.{◌≡◌, [], false};
+ghost use Rattle.zre_commands.specs.show.Lister.{Fed};
+ghost use Rattle.zre_commands.specs.show.Show.{show};
 
 use crate::pump::{Going, Machine};
 use crate::show::lines::push_lines;
@@ -12,16 +14,13 @@ use zre_zmtp::{Items, Reader, ZmtpFault};
 /// items of the last piece.
 #[derive(Drop)]
 pub struct Lister {
-    alloc: Global,
     reader: Reader,
     fault: Option<ZmtpFault>,
     items: Items,
+    alloc: Global,
 }
 
 impl Lister {
-    ghost use Rattle.zre_commands.specs.show.Show.{show};
-    ghost use Rattle.zre_commands.specs.show.Lister.{Fed};
-
     /// Expects a greeting, of which no octet has come yet.
     pub fn new(alloc: Global) -> Self
         ensures fed { Fed result [] }
@@ -29,18 +28,15 @@ impl Lister {
         ensures going { show.is_stopped [] ≡ false }
     {
         Lister {
-            alloc,
             reader: Reader::stream(alloc),
             fault: None,
             items: Items::new(alloc),
+            alloc,
         }
     }
 }
 
 impl Machine for Lister {
-    ghost use Rattle.zre_commands.specs.show.Show.{show};
-    ghost use Rattle.zre_commands.specs.show.Lister.{Fed};
-
     ghost fed = { Fed };
 
     ghost says = { λ _. show };
@@ -49,7 +45,6 @@ impl Machine for Lister {
         Ok(())
     }
 
-    #[tactic(auto, using(crate::proofs::show::Listing::text_grows))]
     fn feed(&mut self, piece: &[u8], out: &mut Octets) -> Result<Going, OutOfMemory> {
         if self.reader.spent() {
             return Ok(Going::Stop);

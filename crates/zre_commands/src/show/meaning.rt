@@ -4,7 +4,7 @@ ghost use Rattle.std.specs.Prelude.{◌≡◌, ◌++◌, OnOk};
 ghost use Rattle.zre_msg.specs.Reading.{read_frames};
 ghost use Rattle.zre_commands.specs.show.Lines.{meaning_text};
 
-use crate::show::texts::{push_bad, push_body, push_lent};
+use crate::show::texts::{push_bad, push_lent, push_message};
 use std::alloc::Global;
 use zre_msg::{Message, ReadFault};
 use zre_values::{Frames, Octets, OutOfMemory};
@@ -16,7 +16,7 @@ fn push_hello(alloc: Global, out: &mut Octets, frames: &Frames) -> Result<(), Ou
 {
     match Message::read(alloc, frames) {
         Ok(message) => {
-            let told = push_body(out, message.sequence, &message.body);
+            let told = push_message(out, &message);
             drop(message);
             told
         }

@@ -1,14 +1,16 @@
 //! The texts of what messages mean.
 
-ghost use Rattle.std.specs.Prelude.{◌≡◌, ◌++◌, Ok, OnOk};
+ghost use Rattle.std.specs.Prelude.{◌≡◌, ◌++◌, true, Ok, OnOk};
 ghost use Rattle.zre_msg.specs.Content.{content_of};
 ghost use Rattle.zre_msg.specs.Lent.{message_of};
+ghost use Rattle.zre_peer.specs.Runs.{is_hello};
 ghost use Rattle.zre_values.specs.Text.{quoted_list};
 ghost use Rattle.zre_commands.specs.show.Lines.{head_text, place_text, sender_text, whisper_text, shout_text};
-ghost use Rattle.zre_commands.specs.show.Lines.{change_text, other_text, body_text, meaning_text, why_text};
+ghost use Rattle.zre_commands.specs.show.Lines.{change_text, other_text, meaning_text, why_text};
 ghost use Rattle.zre_commands.specs.show.Lines.{bad_text};
 
-use zre_msg::{Bad, BadWhy, Body, LentBody, LentContent, LentMessage};
+use zre_msg::{Bad, BadWhy, Body, LentBody, LentContent, LentMessage, Message};
+use zre_peer::lent;
 use zre_values::{
     Frames, Octets, OutOfMemory, Pairs, push_decimal, push_quoted, push_quoted_frames,
     push_quoted_list, push_quoted_pairs,
@@ -106,6 +108,7 @@ fn push_other(out: &mut Octets, sequence: u16, number: u8) -> Result<(), OutOfMe
 
 /// Appends the text of a message that lies in its frames. After an error a front of it may stand there, as after every
 /// call of this module.
+#[inline(always)]
 pub(crate) fn push_lent(out: &mut Octets, lent: &LentMessage<'_>) -> Result<(), OutOfMemory>
     ensures { OnOk result (out.new ≡ out.old ++ meaning_text (Ok (message_of lent.now))) }
 {
@@ -127,41 +130,33 @@ pub(crate) fn push_lent(out: &mut Octets, lent: &LentMessage<'_>) -> Result<(), 
     }
 }
 
-/// Appends the text of a message.
-pub(crate) fn push_body(out: &mut Octets, sequence: u16, body: &Body) -> Result<(), OutOfMemory>
-    ensures { OnOk result (out.new ≡ out.old ++ body_text sequence body.now) }
+// Appends the text of a HELLO.
+fn push_hello(out: &mut Octets, message: &Message) -> Result<(), OutOfMemory>
+    requires { is_hello message.now.body ≡ true }
+    ensures { OnOk result (out.new ≡ out.old ++ meaning_text (Ok message.now)) }
 {
-    match body {
-        Body::Hello {
-            endpoint,
-            groups,
-            status,
-            name,
-            headers,
-        } => {
-            push_head(out, b"HELLO", sequence)?;
-            push_place(out, endpoint, groups, *status)?;
-            push_sender(out, name, headers)
-        }
-        Body::Whisper { content } => {
-            let content = LentContent::Frames(content.as_slice());
-            push_whisper(out, sequence, content)
-        }
-        Body::Shout { group, content } => {
-            let content = LentContent::Frames(content.as_slice());
-            push_shout(out, sequence, group.as_slice(), content)
-        }
-        Body::Join { group, status } => {
-            push_head(out, b"JOIN", sequence)?;
-            push_change(out, group.as_slice(), *status)
-        }
-        Body::Leave { group, status } => {
-            push_head(out, b"LEAVE", sequence)?;
-            push_change(out, group.as_slice(), *status)
-        }
-        Body::Ping => push_head(out, b"PING", sequence),
-        Body::PingOk => push_head(out, b"PING-OK", sequence),
-        Body::Other { number, .. } => push_other(out, sequence, *number),
+    if let Body::Hello {
+        endpoint,
+        groups,
+        status,
+        name,
+        headers,
+    } = &message.body
+    {
+        push_head(out, b"HELLO", message.sequence)?;
+        push_place(out, endpoint, groups, *status)?;
+        push_sender(out, name, headers)?;
+    }
+    Ok(())
+}
+
+/// Appends the text of a message.
+pub(crate) fn push_message(out: &mut Octets, message: &Message) -> Result<(), OutOfMemory>
+    ensures { OnOk result (out.new ≡ out.old ++ meaning_text (Ok message.now)) }
+{
+    match lent(message) {
+        Some(lent) => push_lent(out, &lent),
+        None => push_hello(out, message),
     }
 }
 

@@ -3,7 +3,7 @@ use Rattle.std.specs.Prelude.{is_some}
 use Rattle.zre_zmtp.specs.Stream.{Whole}
 use Rattle.zre_commands.specs.show.Lines.{lines}
 use Rattle.zre_commands.proofs.Pieces.{going_reads, not_spent, items_are}
-use Rattle.zre_commands.proofs.show.Listing.{text_on}
+use Rattle.zre_commands.proofs.show.Listing.{text_grows, text_on}
 use Rattle.zre_commands.proofs.show.lister.ListerMachine.feed.Goals as goal
 
 pub returns-then-spent-clause-fed : goal.returns-then-spent-clause-fed
@@ -27,3 +27,17 @@ returns-clause-text c = λ o h going.
 
 pub returns-clause-stop : goal.returns-clause-stop
 returns-clause-stop c = λ o h going. c.going_after.ensures ∙ ap is_some (c.in_ok-fault.ensures Whole o (going_reads Whole o _ _ h going)).read.faulty
+
+-- ---- the text of more octets begins with that of fewer
+
+pub returns-then-spent-clause-longer : goal.returns-then-spent-clause-longer
+returns-then-spent-clause-longer c = λ o. text_grows o c.args.piece.now
+
+pub returns-in_err-fault-clause-longer : goal.returns-in_err-fault-clause-longer
+returns-in_err-fault-clause-longer c = λ o. text_grows o c.args.piece.now
+
+pub returns-in_err-push_lines-clause-longer : goal.returns-in_err-push_lines-clause-longer
+returns-in_err-push_lines-clause-longer c = λ o. text_grows o c.args.piece.now
+
+pub returns-clause-longer : goal.returns-clause-longer
+returns-clause-longer c = λ o. text_grows o c.args.piece.now
