@@ -59,17 +59,11 @@ print_yields status (Some fault.OutOfMemory) none calm le = inr (then_below (ran
 
 pub world_yields : (status : Status) (how : Ending) (now before : Option ℕ) → now ≡ refused_after (is_world_fault how) before → rank status ≤ rank (of_work how) → Yields status WorldFault (now ≡ before)
 world_yields status ending.WorldFault now before is le = inr le
-world_yields status ending.RecordFault now before is le = inl is
-world_yields status ending.Stopped now before is le = inl is
-world_yields status ending.TooLong now before is le = inl is
-world_yields status ending.OutOfMemory now before is le = inl is
+world_yields status _ now before is le = inl is
 
 pub record_yields : (status : Status) (how : Ending) (now before : Option ℕ) → now ≡ refused_after (is_record_fault how) before → rank status ≤ rank (of_work how) → Yields status WriteFault (now ≡ before)
 record_yields status ending.RecordFault now before is le = inr le
-record_yields status ending.WorldFault now before is le = inl is
-record_yields status ending.Stopped now before is le = inl is
-record_yields status ending.TooLong now before is le = inl is
-record_yields status ending.OutOfMemory now before is le = inl is
+record_yields status _ now before is le = inl is
 
 pub thread_yields : (status : Status) (refused : Bool) (none : Type 0) → (refused ≡ false → none) → rank status ≤ rank (of_thread refused) → Yields status NoThread none
 thread_yields status true none calm le = inr le
@@ -84,6 +78,10 @@ yields_since status failed none none' more (inr le) = inr le
 pub fault_yields : (T : Type 0) (failed : Status) (f : NextFault) (now before : Option ℕ) → now ≡ refused_after (is_failed {T = T} (Err f)) before → Yields (of_fault f failed) failed (now ≡ before)
 fault_yields T failed fault.Failed now before is = inr (below_self (rank failed))
 fault_yields T failed fault.OutOfMemory now before is = inl is
+
+-- a thread was refused before anything was written, and the recorder and the world came back as they were
+pub refused_first : (writes records worlds starts : Type 0) → writes → records → worlds → IsFirst NoThread writes records worlds starts
+refused_first writes records worlds starts wrote kept gave = record { written = inl wrote; recorded = inl kept; given = inl gave; started = inr (below_self 7) }
 
 -- all of it
 pub first_of_all : (read : Status) (broke : Option NextFault) (how : Ending) (refused : Bool) (status : Status)

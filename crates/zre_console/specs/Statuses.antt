@@ -43,28 +43,28 @@ IsReadSo status refused refused' =
     (RefusesNone refused refused' × (status ≢ ReadFault))
     ⊎ (RefusesLast refused refused' × ((status ≡ ReadFault) ⊎ (status ≡ OutOfMemory)))
 
+-- ---- what each end comes to: Done where it isn't that of a fault or a limit
+
 abbrev pub of_fault : NextFault → Status → Status
 of_fault fault.Failed failed = failed
 of_fault fault.OutOfMemory failed = OutOfMemory
 
 abbrev pub of_read : InputEnd → Status
-of_read end.Quit = Done
-of_read end.AtEnd = Done
-of_read end.Over = Done
 of_read end.ReadFault = ReadFault
 of_read end.TooLong = TooLong
 of_read end.OutOfMemory = OutOfMemory
+of_read _ = Done
 
 abbrev pub of_print : Option NextFault → Status
 of_print None = Done
 of_print (Some f) = of_fault f WriteFault
 
 abbrev pub of_work : Ending → Status
-of_work ending.Stopped = Done
 of_work ending.WorldFault = WorldFault
 of_work ending.RecordFault = WriteFault
 of_work ending.TooLong = TooLong
 of_work ending.OutOfMemory = OutOfMemory
+of_work _ = Done
 
 abbrev pub of_thread : Bool → Status
 of_thread true = NoThread

@@ -36,17 +36,29 @@ pub struct NodeWork<W, R> {
     pub limit: u64,
 }
 
-/// What the caller's own thread is given: it prints, and asks the node to stop where it has to.
+/// The pipes for the caller's own thread and for the node's, and the sign that nothing more is to be put.
 #[derive(Drop)]
-pub struct PrinterArgs {
-    /// Where it takes events, and puts a quit.
+pub struct Shares {
+    /// Of the caller's own thread.
     pub pipes: Arc<Pipes, Global>,
-    /// Whether nothing more is to be put.
+    /// Of the node's thread.
+    pub pipes_of_node: Arc<Pipes, Global>,
+    /// Whether nothing more is to be put: not yet.
     pub over: Arc<AtomicBool, Global>,
-    /// By which it asks the node to stop, under a number of its own.
-    pub asker: CallerPass,
-    /// By which it takes events.
-    pub taker: TakerPass,
+}
+
+/// Shares the pipes.
+pub fn share(alloc: Global, pipes: Pipes) -> Result<Shares, OutOfMemory>
+    ensures { IfOk result (λ shares. (arc_value shares.pipes ≡ pipes) × (arc_value shares.pipes_of_node ≡ pipes)) }
+{
+    let pipes = Arc::new(alloc, pipes)?;
+    let pipes_of_node = Arc::try_clone(&pipes)?;
+    let over = Arc::new(alloc, AtomicBool::new(false))?;
+    Ok(Shares {
+        pipes,
+        pipes_of_node,
+        over,
+    })
 }
 
 /// What a thread that puts commands is given.
@@ -77,31 +89,6 @@ pub fn caller_args(
     })
 }
 
-/// The pipes for the caller's own thread and for the node's, and the sign that nothing more is to be put.
-#[derive(Drop)]
-pub struct Shares {
-    /// Of the caller's own thread.
-    pub pipes: Arc<Pipes, Global>,
-    /// Of the node's thread.
-    pub pipes_of_node: Arc<Pipes, Global>,
-    /// Whether nothing more is to be put: not yet.
-    pub over: Arc<AtomicBool, Global>,
-}
-
-/// Shares the pipes.
-pub fn share(alloc: Global, pipes: Pipes) -> Result<Shares, OutOfMemory>
-    ensures { IfOk result (λ shares. (arc_value shares.pipes ≡ pipes) × (arc_value shares.pipes_of_node ≡ pipes)) }
-{
-    let pipes = Arc::new(alloc, pipes)?;
-    let pipes_of_node = Arc::try_clone(&pipes)?;
-    let over = Arc::new(alloc, AtomicBool::new(false))?;
-    Ok(Shares {
-        pipes,
-        pipes_of_node,
-        over,
-    })
-}
-
 /// Two of the passes that weren't taken yet: of who puts last, and of who asks the node to stop.
 pub fn take_two(callers: &mut CallerPasses) -> (CallerPass, CallerPass)
     // Two are left.
@@ -122,4 +109,17 @@ pub fn take_two(callers: &mut CallerPasses) -> (CallerPass, CallerPass)
         unreachable!();
     };
     (last, asker)
+}
+
+/// What the caller's own thread is given: it prints, and asks the node to stop where it has to.
+#[derive(Drop)]
+pub struct PrinterArgs {
+    /// Where it takes events, and puts a quit.
+    pub pipes: Arc<Pipes, Global>,
+    /// Whether nothing more is to be put.
+    pub over: Arc<AtomicBool, Global>,
+    /// By which it asks the node to stop, under a number of its own.
+    pub asker: CallerPass,
+    /// By which it takes events.
+    pub taker: TakerPass,
 }

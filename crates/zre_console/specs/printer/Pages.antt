@@ -32,3 +32,8 @@ pub record Tries (old new : Page) (faults faults' : ℕ) (refused refused' : Opt
   pub later : faults ≤ faults'
   pub failed : new.fault ≡ Some Failed → (old.fault ≡ Some Failed) ⊎ Rose faults faults'
   pub counts : new.fault ≡ None → refused' ≡ refused
+
+-- the same of a sink, before and after, by what it tells of its faults and of the writes that it refused
+abbrev pub TriesOn : {O : Type 0} → (O → ℕ) → (O → Option ℕ) → (old new : Page) (before after : O) → Type 0
+TriesOn faults refused old new before after =
+    Tries old new (faults before) (faults after) (refused before) (refused after)

@@ -6,7 +6,7 @@ ghost use Rattle.zre_outside.specs.Causes.{Rose};
 ghost use Rattle.zre_outside.specs.Told.{AppendsFront, WritesThrough};
 ghost use Rattle.zre_peer.specs.declared.event.Event.{Event as EventValue};
 ghost use Rattle.zre_peer.specs.Lines.{line};
-ghost use Rattle.zre_console.specs.printer.Pages.{Shows, StillShows, Tries, fresh};
+ghost use Rattle.zre_console.specs.printer.Pages.{Shows, StillShows, TriesOn, fresh};
 
 use std::alloc::Global;
 use zre_outside::{NextFault, Sink, write_gathered, write_much};
@@ -56,8 +56,7 @@ impl Page {
         ensures shows { (w : Option (List ℕ)) (es : List EventValue) → Shows self.old w (O.written out.old) es →
             Shows self.new w (O.written out.new) (es ++ event.now ∷ []) }
         // After a fault nothing more is printed; the count rises where the sink failed.
-        ensures tries { Tries self.old self.new (O.faults out.old) (O.faults out.new) (O.refused out.old)
-            (O.refused out.new) }
+        ensures tries { TriesOn O.faults O.refused self.old self.new out.old out.new }
     {
         if self.fault.is_some() {
             return;
@@ -73,8 +72,7 @@ impl Page {
         ensures shows { StillShows self.old self.new (O.written out.old) (O.written out.new) }
         ensures written { self.new.fault ≡ None → self.new.text ≡ [] }
         // After a fault nothing more is written; the count rises where the sink failed.
-        ensures tries { Tries self.old self.new (O.faults out.old) (O.faults out.new) (O.refused out.old)
-            (O.refused out.new) }
+        ensures tries { TriesOn O.faults O.refused self.old self.new out.old out.new }
     {
         if self.fault.is_some() || self.text.is_empty() {
             return;
@@ -90,8 +88,7 @@ impl Page {
         ensures shows { StillShows self.old self.new (O.written out.old) (O.written out.new) }
         ensures text { self.new.text ≡ self.old.text }
         // A fault stays; the count rises where the sink failed.
-        ensures tries { Tries self.old self.new (O.faults out.old) (O.faults out.new) (O.refused out.old)
-            (O.refused out.new) }
+        ensures tries { TriesOn O.faults O.refused self.old self.new out.old out.new }
     {
         let told = out.write(&[]);
         if self.fault.is_some() {
@@ -108,8 +105,7 @@ impl Page {
         ensures shows { StillShows self.old self.new (O.written out.old) (O.written out.new) }
         ensures written { self.new.fault ≡ None → self.new.text ≡ [] }
         // After a fault nothing more is written; the count rises where the sink failed.
-        ensures tries { Tries self.old self.new (O.faults out.old) (O.faults out.new) (O.refused out.old)
-            (O.refused out.new) }
+        ensures tries { TriesOn O.faults O.refused self.old self.new out.old out.new }
     {
         self.write(out);
         self.tell_end(out);

@@ -4,7 +4,7 @@ ghost use Rattle.std.specs.Prelude.{◌≡◌, ◌≤◌, ℕ, List, [], true, O
 ghost use Rattle.zre_outside.specs.Causes.{Rose};
 ghost use Rattle.zre_outside.specs.declared.sink.NextFault.TheVariants.{Failed};
 ghost use Rattle.zre_actor.specs.Passes.{IsCallerOf, IsTakerOf, IsTold, taken_by, last_of};
-ghost use Rattle.zre_console.specs.printer.Pages.{StillShows, Tries};
+ghost use Rattle.zre_console.specs.printer.Pages.{StillShows, TriesOn};
 ghost use Rattle.zre_actor.specs.declared.passes.TakerPass.{TakerPass as TakerPassValue};
 ghost use Rattle.zre_console.specs.declared.printer.asker.Asker.{Asker as AskerValue};
 ghost use Rattle.zre_console.specs.printer.Printing.{HasPrinted, Prints, IsLast};
@@ -46,8 +46,7 @@ impl Page {
         ensures told { MatchOption result.1 ((taken_by result.0 ≡ taken_by taker) × (last_of result.0 ≡ last_of taker))
             (λ told. IsTold taker told result.0) }
         ensures shows { StillShows self.old self.new (O.written out.old) (O.written out.new) }
-        ensures tries { Tries self.old self.new (O.faults out.old) (O.faults out.new) (O.refused out.old)
-            (O.refused out.new) }
+        ensures tries { TriesOn O.faults O.refused self.old self.new out.old out.new }
     {
         let (taker, found) = pipes.try_take(rt, taker);
         if found.is_some() {
@@ -82,8 +81,7 @@ impl Page {
             → Prints first start w asker taker self.old (O.written out.old) →
             Prints first start w result.1 result.0 self.new (O.written out.new) }
         // A fault stays; the count rises where the sink failed.
-        ensures tries { Tries self.old self.new (O.faults out.old) (O.faults out.new) (O.refused out.old)
-            (O.refused out.new) }
+        ensures tries { TriesOn O.faults O.refused self.old self.new out.old out.new }
     {
         let asker = asker.ask(rt, pipes, self.fault.is_some());
         let (taker, found) = self.next_told(rt, pipes, taker, out, asker.wish);
