@@ -7,7 +7,7 @@ use Rattle.zre_net.specs.declared.running.rows.Started.{Started}
 use Rattle.zre_net.specs.declared.running.rows.Carrier.{Carrier}
 use Rattle.zre_net.specs.Lines.{octets_in}
 use Rattle.zre_net.specs.Lists.{nth}
-use Rattle.zre_net.specs.Rows.{running_at, fits_owner, with_running}
+use Rattle.zre_net.specs.Rows.{running_at, has_node, fits_owner, with_running}
 use Rattle.zre_net.specs.Running.{AreStarted, AreConns, StandsAfter}
 use Rattle.zre_net.proofs.Listing.{got_same, got_other}
 
@@ -23,6 +23,7 @@ begins net handed said started running owners beacons links conns queued pending
     started = subst (λ xs. AreStarted [] xs) (sym started) (record { count = refl; each = λ k a e. none k e; none_yet = λ a z. refl });
     runs = λ n. ap (running_at n) running ∙ none_at 17 n;
     live = λ n k e. nobody k (sym (ap (running_at n) running ∙ none_at 17 n) ∙ e);
+    gone = λ k z. ap (λ xs. has_node (nth k xs)) started ∙ no_node k;
     owners = λ n id. ap (list_all (fits_owner n id)) owners;
     beacons = beacons;
     links = links;
@@ -33,6 +34,10 @@ begins net handed said started running owners beacons links conns queued pending
   pending_is = pending ∙ ap (λ xs. sum_by (λ (y : Carrier). length y.waiting) xs) (sym conns);
 }
   where
+    no_node : (k : ℕ) → has_node (nth k []) ≡ false
+    no_node zero = refl
+    no_node (suc k) = refl
+
     nobody : {B : Type 0} (k : ℕ) → None ≡ Some k → B
     nobody k e = absurd cc
 

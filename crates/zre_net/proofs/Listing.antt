@@ -45,6 +45,10 @@ there [] i d z = absurd (omega (arith, z))
 there (x ∷ xs) zero d z = refl
 there (x ∷ xs) (suc i) d z = there xs i d (omega (arith, z))
 
+-- at a place within a slice of them
+pub at_place : {A : Type 0} (xs ys : List A) (i : ℕ) (v d : A) → ys ≡ xs → i < length ys → v ≡ get_or xs i d → slice_get xs i ≡ Some v
+at_place xs ys i v d same lt is = there xs i d (let n = ap (λ zs. length zs) same in omega (arith, n, lt)) ∙ ap (λ x. Some x) (sym is)
+
 pub set_back : {A : Type 0} (xs : List A) (i : ℕ) (v : A) → slice_get xs i ≡ Some v → slice_set xs i v ≡ xs
 set_back [] i v e = refl
 set_back (x ∷ xs) zero v e = ap (λ y. y ∷ xs) (sym (some_one e))

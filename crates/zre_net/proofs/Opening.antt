@@ -18,7 +18,7 @@ use Rattle.zre_net.specs.Numbers.{Route, CarriedConn, routes, conns, conn_of}
 use Rattle.zre_net.specs.Grammar.{may_come}
 use Rattle.zre_net.specs.Lines.{octets_in}
 use Rattle.zre_net.specs.Said.{said_in, IsRest}
-use Rattle.zre_net.specs.Rows.{Fits, running_at, has_node, fits_owner}
+use Rattle.zre_net.specs.Rows.{Fits, running_at, has_node, OnlyRunning, fits_owner}
 use Rattle.zre_net.specs.Running.{AreNodes, IsConn, HasConn, StandsAfter, AreStarted, Finds, IsPlayed, way_of}
 use Rattle.zre_net.proofs.Connecting.{known_later, conn_still, silent_more}
 use Rattle.zre_net.proofs.Hearing.{fits_new}
@@ -88,6 +88,7 @@ same_fields H net mid said started running owners beacons links queued n = recor
   started = subst (λ xs. AreStarted H xs.items) (sym started) n.started;
   runs = λ k. subst (λ r. Finds H k (running_in k H) (running_at k r.items)) (sym running) (n.runs k);
   live = λ k j e. ap (λ xs. has_node (nth j xs.items)) started ∙ n.live k j (ap (λ r. running_at k r.items) (sym running) ∙ e);
+  gone = subst (λ v. OnlyRunning v.items mid.running.items) (sym started) (subst (λ r. OnlyRunning net.started.items r.items) (sym running) n.gone);
   owners = λ k id. ap (list_all (fits_owner k id)) owners ∙ n.owners k id;
   beacons = beacons ∙ n.beacons;
   links = links ∙ n.links;

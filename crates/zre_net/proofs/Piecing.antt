@@ -1,5 +1,5 @@
 -- Octets of a connection come, part by part.
-use Rattle.std.proofs.Common.{◌≡◌, ◌⊎◌, ℕ, zero, suc, ◌+◌, ◌-◌, ◌≤◌, ◌<◌, max, Bool, true, false, cond, ◌&&◌, eqb, ltb, leb, List, [], ◌∷◌, ◌++◌, length, map, take, drop, Option, Some, None, refl, sym, ap, ◌∙◌, subst, arith, eqb-true, eq-eqb, ltb-true, ltb-false, leb-true, leb-false, append_assoc}
+use Rattle.std.proofs.Common.{◌≡◌, ◌⊎◌, ℕ, zero, suc, ◌+◌, ◌-◌, ◌≤◌, ◌<◌, max, Bool, true, false, cond, ◌&&◌, eqb, leb, List, [], ◌∷◌, ◌++◌, length, map, take, drop, Option, Some, None, refl, sym, ap, ◌∙◌, subst, arith, eqb-true, eq-eqb, append_assoc}
 use Rattle.std.specs.Prelude.{slice_get, slice_set, sum_by, option_map}
 use Rattle.std.specs.List.{filter_map, AllByRecursion}
 use Rattle.std.proofs.lemmas.List.{length-drop, map-append}
@@ -31,7 +31,7 @@ use Rattle.zre_net.specs.Grammar.{may_come, passes, is_there}
 use Rattle.zre_net.specs.History.{Incarnation, NodeTurn, Happening, Happens, IsKnown, incarnations, running, journal, chronicle_of}
 use Rattle.zre_net.specs.Lists.{nth}
 use Rattle.zre_net.specs.Numbers.{Route, CarriedConn, routes, route_in, broadcasts, broadcast_in, conns}
-use Rattle.zre_net.specs.Rows.{running_at, Fits, IsHeard}
+use Rattle.zre_net.specs.Rows.{running_at, has_waiting, Fits, IsHeard}
 use Rattle.zre_net.specs.Running.{HasStarted, AreStarted, AreNodes, IsConn, HasConn, StandsAfter, IsPlayed, Receives, sent_of, way_of}
 use Rattle.zre_net.specs.Said.{said_in, IsRest}
 use Rattle.zre_net.specs.Sender.{is_slight}
@@ -40,7 +40,7 @@ use Rattle.zre_net.proofs.Connecting.{known_later, conn_still, silent_more}
 use Rattle.zre_net.proofs.OnePiece.{has_sent_whole}
 use Rattle.zre_net.proofs.Hearing.{fits_piece, completes_few}
 use Rattle.zre_net.proofs.Listing.{some_one, nth_at, set_length, sum_set, all_map, past_all}
-use Rattle.zre_net.proofs.Plays.{still, played, not_received, received}
+use Rattle.zre_net.proofs.Plays.{still, refused, played, not_received, received}
 use Rattle.zre_net.proofs.SameMarksWhenCut.{new_but, sim, Sim}
 use Rattle.zre_net.proofs.Journals.{chronicle_now, same_who}
 use Rattle.zre_net.proofs.Staying.{rows_set, start_stays, conn_stays, finds_stays}
@@ -265,6 +265,7 @@ module _ (H : List Happening) (x i j at : ℕ) (w : Incarnation) (known : IsKnow
         started = started_same;
         runs = λ n. finds_stays H2 W (λ v k. k) n (running n H) (running_at n net.running.items) (st.nodes.runs n);
         live = st.nodes.live;
+        gone = st.nodes.gone;
         owners = st.nodes.owners;
         beacons = st.nodes.beacons ∙ ap (λ xs. map sent_of xs) broadcasts_same;
         links = st.nodes.links ∙ ap (λ xs. map way_of xs) routes_same;
@@ -317,31 +318,22 @@ hand_on H x count left came at c net new s there a b t =
 pub piece_gone : (H : List Happening) (x count at : ℕ) → Receives H (nth x (conns H)) None → may_come (move.Piece x count at) H ≡ false
 piece_gone H x count at r = not_received H (λ c. leb count (length (pending x H))) (nth x (conns H)) r
 
-pub piece_refused : (H : List Happening) (x count at k : ℕ) (net : Network) (w : ℕ) → Receives H (nth x (conns H)) (Some k) → ((c : CarriedConn) → nth x (conns H) ≡ Some c → w ≡ length (pending x H)) → ltb w count ≡ true → may_come (move.Piece x count at) H ≡ false
-piece_refused H x count at k net w r f z =
-    let q = received H k (nth x (conns H)) r in
-    ap (passes (λ (c : CarriedConn). is_there H c.to && leb count (length (pending x H)))) q.is ∙ ap (λ b. b && leb count (length (pending x H))) q.runs ∙ too_many (leb count (length (pending x H))) refl (f q.conn q.is)
-  where
-    too_many : (b : Bool) → leb count (length (pending x H)) ≡ b → w ≡ length (pending x H) → b ≡ false
-    too_many false e l = refl
-    too_many true e l = let p = leb-true count (length (pending x H)) e in let q = ltb-true w count z in absurd (omega (arith, p, q, l))
+module _ (H : List Happening) (x count at k : ℕ) (net : Network) (r : Receives H (nth x (conns H)) (Some k)) (waits : (c : CarriedConn) → nth x (conns H) ≡ Some c → has_waiting count (nth x net.conns.items) ≡ leb count (length (pending x H))) where
+  -- whether so many octets may come: whether so many wait
+  may : may_come (move.Piece x count at) H ≡ has_waiting count (nth x net.conns.items)
+  may =
+      let q = received H k (nth x (conns H)) r in
+      ap (passes (λ (c : CarriedConn). is_there H c.to && leb count (length (pending x H)))) q.is ∙ ap (λ b. b && leb count (length (pending x H))) q.runs ∙ sym (waits q.conn q.is)
 
-pub piece_played : (H : List Happening) (x count at k : ℕ) (net new : Network) (w : ℕ) → Receives H (nth x (conns H)) (Some k) → ((c : CarriedConn) → nth x (conns H) ≡ Some c → w ≡ length (pending x H)) → ltb w count ≡ false
-    → ((c : CarriedConn) → nth x (conns H) ≡ Some c → k ≡ c.to.number → StandsAfter (with_move (move.Piece x count at) H) new) → IsPlayed (move.Piece x count at) H true new
-piece_played H x count at k net new w r f z t =
-    let q = received H k (nth x (conns H)) r in
-    played (move.Piece x count at) H new (ap (passes (λ (c : CarriedConn). is_there H c.to && leb count (length (pending x H)))) q.is ∙ ap (λ b. b && leb count (length (pending x H))) q.runs ∙ few (leb count (length (pending x H))) refl (f q.conn q.is)) (t q.conn q.is q.number)
-  where
-    few : (b : Bool) → leb count (length (pending x H)) ≡ b → w ≡ length (pending x H) → b ≡ true
-    few true e l = refl
-    few false e l = let p = leb-false count (length (pending x H)) e in let q = ltb-false w count z in absurd (omega (arith, p, q, l))
+  pub piece_refused : has_waiting count (nth x net.conns.items) ≡ false → IsPlayed (move.Piece x count at) H false net
+  piece_refused z = refused (move.Piece x count at) H net (may ∙ z)
+
+  pub piece_played : (new : Network) → has_waiting count (nth x net.conns.items) ≡ true → ((c : CarriedConn) → nth x (conns H) ≡ Some c → k ≡ c.to.number → StandsAfter (with_move (move.Piece x count at) H) new) → IsPlayed (move.Piece x count at) H true new
+  piece_played new z t = let q = received H k (nth x (conns H)) r in played (move.Piece x count at) H new (may ∙ z) (t q.conn q.is q.number)
 
 -- ---- how much waits
 
-pub waits_for : (H : List Happening) (net : Network) (s : StandsAfter H net) (x : ℕ) (c : CarriedConn) (y : Carrier) → nth x (conns H) ≡ Some c → nth x net.conns.items ≡ Some y → length y.waiting ≡ length (pending x H)
-waits_for H net s x c y t e =
+pub waiting_is : (H : List Happening) (net : Network) (s : StandsAfter H net) (x n : ℕ) (c : CarriedConn) → nth x (conns H) ≡ Some c → has_waiting n (nth x net.conns.items) ≡ leb n (length (pending x H))
+waiting_is H net s x n c t =
     let h = s.conns_are.each x c t in
-    ap (λ (r : Carrier). length r.waiting) (some_one (sym e ∙ h.there)) ∙ ap (λ o. length o) h.is.waits ∙ ap (λ k. length (pending k H)) h.number
-
-pub waits_not : (H : List Happening) (net : Network) (s : StandsAfter H net) (x : ℕ) (c : CarriedConn) → nth x (conns H) ≡ Some c → nth x net.conns.items ≡ None → 0 ≡ length (pending x H)
-waits_not H net s x c t e = absurd (let h = (s.conns_are.each x c t).there in cc)
+    ap (has_waiting n) h.there ∙ ap (λ o. leb n (length o)) h.is.waits ∙ ap (λ k. leb n (length (pending k H))) h.number

@@ -21,10 +21,10 @@ use Rattle.zre_net.specs.Lines.{octets_in}
 use Rattle.zre_net.specs.Lists.{nth}
 use Rattle.zre_net.specs.Numbers.{Route, CarriedConn, routes, conns, queued_on}
 use Rattle.zre_net.specs.Said.{said_in, IsRest}
-use Rattle.zre_net.specs.Rows.{running_at, with_running, has_node, fits_owner, HasStopped, part_octets, IsSpelledAt, IsLoaded, Fits}
+use Rattle.zre_net.specs.Rows.{running_at, with_running, has_node, OnlyRunning, fits_owner, HasStopped, part_octets, IsSpelledAt, IsLoaded, Fits}
 use Rattle.zre_net.specs.Running.{IsStarted, HasStarted, AreStarted, Finds, AreNodes, IsConn, HasConn, AreConns, StandsAfter, IsPlayed}
 use Rattle.zre_net.proofs.Plays.{played, not_running, runs_there, conn_found, conn_missing, IsFound}
-use Rattle.zre_net.proofs.RunningNodes.{live_kept}
+use Rattle.zre_net.proofs.RunningNodes.{live_kept, gone_stopped}
 use Rattle.zre_net.proofs.Listing.{some_one, apart, nth_map, set_length, sum_set, all_map}
 use Rattle.zre_net.proofs.Staying.{rows_set, start_stays, conn_stays, finds_stays}
 
@@ -70,6 +70,7 @@ module _ (H : List Happening) (n k place : ℕ) (net new : Network) (s : StandsA
     started = record { count = ap (λ xs. length xs) rows ∙ set_length net.started.items place now ∙ s.nodes.started.count; each = each; none_yet = λ b z. s.nodes.started.none_yet b z };
     runs = finds;
     live = live;
+    gone = subst (λ xs. OnlyRunning xs new.running.items) (sym rows) (gone_stopped net.started.items net.running.items s.nodes.gone new.running.items n place was now before gone.gone runs (sym runner ∙ ap (λ j. Some j) under));
     owners = λ n id. ap (list_all (fits_owner n id)) owners ∙ s.nodes.owners n id;
     beacons = beacons ∙ s.nodes.beacons;
     links = links ∙ s.nodes.links;
@@ -126,6 +127,7 @@ module _ (H : List Happening) (x place : ℕ) (p : Part) (net new : Network) (s 
     started = subst (λ xs. AreStarted M xs.items) (sym started) (record { count = s.nodes.started.count; each = λ k a e. start_stays H M (λ b q. q) k a net.started.items net.started.items (λ x t. t) (λ x q. q) (s.nodes.started.each k a e); none_yet = λ b z. s.nodes.started.none_yet b z });
     runs = λ n. subst (λ r. Finds M n (running n H) (running_at n r.items)) (sym runs) (finds_stays H M (λ b k. k) n (running n H) (running_at n net.running.items) (s.nodes.runs n));
     live = λ n j e. ap (λ xs. has_node (nth j xs.items)) started ∙ s.nodes.live n j (ap (λ r. running_at n r.items) (sym runs) ∙ e);
+    gone = subst (λ v. OnlyRunning v.items new.running.items) (sym started) (subst (λ r. OnlyRunning net.started.items r.items) (sym runs) s.nodes.gone);
     owners = λ n id. ap (list_all (fits_owner n id)) owners ∙ s.nodes.owners n id;
     beacons = beacons ∙ s.nodes.beacons;
     links = links ∙ s.nodes.links;

@@ -18,12 +18,12 @@ use Rattle.zre_net.specs.History.{Incarnation, Happening, IsKnown, starts, incar
 use Rattle.zre_net.specs.Lines.{octets_in}
 use Rattle.zre_net.specs.Lists.{nth}
 use Rattle.zre_net.specs.Numbers.{Route, routes, conns}
-use Rattle.zre_net.specs.Rows.{running_at, with_running, has_node, fits_owner, is_owner, Owns, IsBegun}
+use Rattle.zre_net.specs.Rows.{running_at, with_running, has_node, OnlyRunning, fits_owner, is_owner, Owns, IsBegun}
 use Rattle.zre_net.specs.declared.running.rows.Owner.{Owner}
 use Rattle.zre_net.specs.Said.{said_in, IsRest}
 use Rattle.zre_net.specs.Running.{IsStarted, HasStarted, Finds, AreNodes, AreConns, StandsAfter}
 use Rattle.zre_net.specs.Sending.{HasSent}
-use Rattle.zre_net.proofs.RunningNodes.{live_more}
+use Rattle.zre_net.proofs.RunningNodes.{live_more, gone_more}
 use Rattle.zre_net.proofs.Listing.{some_one, nth_more, nth_last, nth_cases, all_map}
 use Rattle.zre_net.proofs.Journals.{length-last, as_many_starts}
 use Rattle.zre_journal.proofs.NumberedLists.{eqb-comm}
@@ -113,7 +113,7 @@ module _ (H : List Happening) (n at : ℕ) (id : PeerId) (name host : List ℕ) 
 
   module _ (x : Started) (begun : IsBegun n at (settings_of id name host port) x) (rows : new.started.items ≡ net.started.items ++ x ∷ []) (runs : with_running n (Some (length new.started.items)) net.running.items new.running.items)
       (owners : Owns net.owners n id new.owners) (said : IsRest new.handed (said_in H) new.said) (beacons : new.beacons ≡ net.beacons) (links : new.links ≡ net.links) (conns_stay : new.conns ≡ net.conns)
-      (queued : new.queued ≡ net.queued) (pending_stay : new.pending ≡ net.pending) where
+      (queued : new.queued ≡ net.queued) (pending_stay : new.pending ≡ net.pending) (free : running_at n net.running.items ≡ None) where
     new_row : IsStarted N a x
     new_row = record { node = begun.node; since = begun.since_is; id = begun.id; host = begun.host; sent = subst (λ J. HasSent a.settings J x.sender) (sym none_yet) begun.sent }
 
@@ -140,12 +140,12 @@ module _ (H : List Happening) (n at : ℕ) (id : PeerId) (name host : List ℕ) 
         by true e = (ap (λ m. Some m) (count ∙ its_number), starting_known H n at id name host port, sym (eqb-true k n e))
         by false e = finds_stays H N known_later k (running k H) (running_at k net.running.items) (s.nodes.runs k)
 
+    long : length new.started.items ≡ length net.started.items + 1
+    long = let q = ap (λ xs. length xs) rows in let l = length-last net.started.items x in omega (arith, q, l)
+
     live : (k j : ℕ) → running_at k new.running.items ≡ Some j → has_node (nth j new.started.items) ≡ true
     live k j e = by (eqb k n) (sym (runs k) ∙ e)
       where
-        long : length new.started.items ≡ length net.started.items + 1
-        long = let q = ap (λ xs. length xs) rows in let l = length-last net.started.items x in omega (arith, q, l)
-
         by : (t : Bool) → cond t (Some (length new.started.items)) (running_at k net.running.items) ≡ Some j → has_node (nth j new.started.items) ≡ true
         by true z = ap (λ i. has_node (nth i new.started.items)) (sym (some_one z) ∙ long) ∙ ap (λ xs. has_node (nth (length net.started.items + 1) xs)) rows ∙ ap has_node (nth_last net.started.items x) ∙ begun.live
         by false z = ap (λ xs. has_node (nth j xs)) rows ∙ live_more j net.started.items (x ∷ []) (s.nodes.live k j z)
@@ -160,6 +160,8 @@ module _ (H : List Happening) (n at : ℕ) (id : PeerId) (name host : List ℕ) 
       };
       runs = finds;
       live = live;
+      gone = subst (λ ys. OnlyRunning ys new.running.items) (sym rows)
+          (gone_more net.started.items net.running.items s.nodes.gone new.running.items n x begun.node (λ j. runs j ∙ ap (λ l. cond (eqb j n) (Some l) (running_at j net.running.items)) long) free);
       owners = λ k p. owners k p ∙ ap (λ b. b && fits_owner k p (record { node = n; id = id })) (s.nodes.owners k p) ∙ ap (λ b. list_all (agrees k p) (incarnations H) && b) (fits_same k p a) ∙ sym (all_last (agrees k p) (incarnations H) a);
       beacons = beacons ∙ s.nodes.beacons;
       links = links ∙ s.nodes.links;
@@ -203,3 +205,11 @@ may_start H net n at id name host port s =
     grouped : (a b c : Bool) → (a && (b && c)) ≡ (a && b && c)
     grouped true b c = refl
     grouped false b c = refl
+
+-- none runs there
+pub is_free : (H : List Happening) (net : Network) (n at : ℕ) (id : PeerId) (name host : List ℕ) (port : ℕ) → StandsAfter H net → may_come (move.Start n at id name host port) H ≡ true → running_at n net.running.items ≡ None
+is_free H net n at id name host port s = by (running n H) (s.nodes.runs n)
+  where
+    by : (o : Option Incarnation) → Finds H n o (running_at n net.running.items) → (is_none o && list_all (agrees n id) (incarnations H) && ltb 0 port) ≡ true → running_at n net.running.items ≡ None
+    by None f e = f
+    by (Some a) f e = absurd (true≢false (sym e))

@@ -22,12 +22,12 @@ use Rattle.zre_net.specs.Lines.{octets_in}
 use Rattle.zre_net.specs.Lists.{nth}
 use Rattle.zre_net.specs.Numbers.{Route, acts_of, route_in, routes, broadcast_in, broadcasts}
 use Rattle.zre_net.specs.Grammar.{agrees}
-use Rattle.zre_net.specs.Rows.{entry_at, Turned, StaysAt, sent_in, way_in, running_at, has_node, fits_owner}
+use Rattle.zre_net.specs.Rows.{entry_at, Turned, StaysAt, sent_in, way_in, running_at, has_node, OnlyRunning, fits_owner}
 use Rattle.zre_net.specs.Running.{IsStarted, HasStarted, AreStarted, Finds, AreNodes, IsStill, sent_of, way_of}
 use Rattle.zre_net.specs.Said.{said_in, said_at}
 use Rattle.zre_net.specs.Sender.{is_slight}
 use Rattle.zre_net.specs.Sending.{HasSent}
-use Rattle.zre_net.proofs.RunningNodes.{live_set}
+use Rattle.zre_net.proofs.RunningNodes.{live_set, gone_stepped}
 use Rattle.zre_net.proofs.Listing.{some_one, nth_at, set_length, sum_set, all_map, past_all}
 use Rattle.zre_net.proofs.Journals.{journal_now, other_journal}
 use Rattle.std.proofs.lemmas.List.Elements.{filter_map-append}
@@ -161,6 +161,8 @@ module _ (H : List Happening) (m : Move) (still : IsStill m) (a : Incarnation) (
       started = started;
       runs = λ n. finds_stays H N' known_too n (running n N') (running_at n new.running.items) (subst (λ o. Finds H n o (running_at n new.running.items)) (sym (still.running_stay (Some T') H n)) (subst (λ r. Finds H n (running n H) (running_at n r.items)) (sym s.running) (nodes.runs n)));
       live = λ n j e. ap (λ xs. has_node (nth j xs)) s.written ∙ live_set net.started.items s.place j s.now s.stays.live (nodes.live n j (ap (λ r. running_at n r.items) (sym s.running) ∙ e));
+      gone = subst (λ xs. OnlyRunning xs new.running.items) (sym s.written)
+          (subst (λ r. OnlyRunning (slice_set net.started.items s.place s.now) r.items) (sym s.running) (gone_stepped net.started.items net.running.items nodes.gone s.place s.was s.now s.before s.stays.was_live s.stays.node));
       owners = λ n id. ap (list_all (fits_owner n id)) s.owners ∙ nodes.owners n id ∙ ap (list_all (agrees n id)) (sym stay);
       beacons = s.beacons ∙ ap (λ xs. xs ++ filter_map (sent_in s.took.host) s.took.step.acts) nodes.beacons
           ∙ ap (λ h. map sent_of (broadcasts H) ++ filter_map (sent_in h) s.took.step.acts) (s.stays.told_host ∙ old.host)

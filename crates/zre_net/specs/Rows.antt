@@ -1,7 +1,7 @@
 -- What a network keeps of starts, beacons, links and connections.
 use Rattle.std.specs.List.{list_all}
-use Rattle.std.specs.Prelude.{◌≡◌, ◌⊎◌, ℕ, Bool, true, false, not, ◌&&◌, ◌≤◌, max, List, [], ◌∷◌, ◌++◌, length, take}
-use Rattle.std.specs.Prelude.{drop, Option, Some, None, if◌then◌else◌, nat_eq, option_and_then}
+use Rattle.std.specs.Prelude.{◌≡◌, ◌⊎◌, ℕ, Bool, true, false, not, ◌&&◌, ◌≤◌, ◌<◌, max, List, [], ◌∷◌, ◌++◌, length, take}
+use Rattle.std.specs.Prelude.{drop, Option, Some, None, if◌then◌else◌, nat_eq, nat_le, option_and_then}
 use Rattle.std.specs.Prelude.{slice_get, is_some}
 use Rattle.std.specs.Str.{bytes_eq}
 use Rattle.zre_values.specs.declared.peer_id.PeerId.{PeerId}
@@ -11,6 +11,7 @@ use Rattle.zre_outside.specs.declared.act.Act.{Act}
 use Rattle.zre_outside.specs.declared.act.Act.TheVariants as act
 use Rattle.zre_outside.specs.declared.entry.Entry.{Entry}
 use Rattle.zre_outside.specs.declared.entry.Input.{Input}
+use Rattle.zre_link.specs.Front.{HasOctets}
 use Rattle.zre_mailbox.specs.Conn.{conn_after}
 use Rattle.zre_mailbox.specs.Talk.{completed}
 use Rattle.zre_values.specs.declared.settings.Settings.{Settings as Config}
@@ -54,6 +55,10 @@ abbrev pub has_node : Option Started → Bool
 has_node None = false
 has_node (Some x) = is_some x.sender.node
 
+-- no start has its node but those that run
+abbrev pub OnlyRunning : List Started → List (Option ℕ) → Type 0
+OnlyRunning xs rows = (k : ℕ) → is_at k (nth k xs) rows ≡ false → has_node (nth k xs) ≡ false
+
 -- an ID belongs to one node, and a node has one ID
 abbrev pub fits_owner : ℕ → PeerId → Owner → Bool
 fits_owner n id o = if nat_eq o.node n then bytes_eq o.id.0 id.0 else not (bytes_eq o.id.0 id.0)
@@ -83,6 +88,7 @@ pub record HasStopped (x y : Started) : Type 0 where
   pub since : y.since ≡ x.since
   pub id : y.id ≡ x.id
   pub host : y.host ≡ x.host
+  pub gone : has_node (Some y) ≡ false
   pub sent : (g : Config) (J : List Entry) → HasSent g J x.sender → HasSent g J y.sender
   pub lines : y.sender.lines ≡ x.sender.lines
 
@@ -104,6 +110,7 @@ pub record StaysAt (t : EntryTurn) (x y : Started) : Type 0 where
   pub host : y.host ≡ x.host
   pub told_node : t.node ≡ x.node
   pub told_host : t.host ≡ x.host
+  pub was_live : has_node (Some x) ≡ true
   pub live : has_node (Some y) ≡ true
   pub before : t.before ≡ octets_in x.sender.lines
   pub after : t.after ≡ octets_in y.sender.lines
@@ -145,12 +152,18 @@ pub record Fits (g : Config) (x : ℕ) (K : List Mark) (e : ReadSide) : Type 0 w
   pub heard : was_opened x K ≡ true → e.conn ≡ conn_after g.id (bytes x K)
   pub old : (is_new x K ≡ false) ⊎ (has_stopped K ≡ true)
 
--- the next octets have been taken off a connection, and heard
+-- so many octets wait on a connection that is there
+abbrev pub has_waiting : ℕ → Option Carrier → Bool
+has_waiting n None = false
+has_waiting n (Some x) = nat_le n (length x.waiting)
+
+-- the next octets have been taken off a connection, and heard: one at least where any wait
 pub record IsHeard (x : Carrier) (most : ℕ) (b : List ℕ) (y : Carrier) : Type 0 where
   pub to : y.to ≡ x.to
   pub along : y.along ≡ x.along
   pub next : b ≡ take (length b) x.waiting
   pub few : length b ≤ most
+  pub some : 0 < most → HasOctets x.waiting → HasOctets b
   pub waiting : y.waiting ≡ drop (length b) x.waiting
   pub read_side : (own : PeerId) (o : List ℕ) → x.read_side.conn ≡ conn_after own o →
       (length (completed own o b) ≤ 1) × (y.read_side.conn ≡ conn_after own (o ++ b))

@@ -15,7 +15,7 @@ use Rattle.zre_net.specs.declared.running.rows.Way.{Way}
 use Rattle.zre_net.specs.Lists.{nth}
 use Rattle.zre_net.specs.Lines.{octets_in}
 use Rattle.zre_net.specs.Sending.{HasSent}
-use Rattle.zre_net.specs.Rows.{running_at, has_node, fits_owner, Fits}
+use Rattle.zre_net.specs.Rows.{running_at, has_node, OnlyRunning, fits_owner, Fits}
 use Rattle.zre_net.specs.History.{Incarnation, NodeTurn, Happening, Happens, IsKnown, incarnations, running, journal}
 use Rattle.zre_net.specs.History.{chronicle_of}
 use Rattle.zre_net.specs.Numbers.{Broadcast, Route, CarriedConn, broadcasts, routes, conns}
@@ -67,6 +67,7 @@ pub record AreNodes (H : List Happening) (net : Network) : Type 0 where
   pub runs : (n : ℕ) → Finds H n (running n H) (running_at n net.running.items)
   pub live : (n start : ℕ) → running_at n net.running.items ≡ Some start
       → has_node (nth start net.started.items) ≡ true
+  pub gone : OnlyRunning net.started.items net.running.items
   pub owners : (n : ℕ) (id : PeerId) → list_all (fits_owner n id) net.owners ≡ list_all (agrees n id) (incarnations H)
   pub beacons : net.beacons ≡ map sent_of (broadcasts H)
   pub links : net.links ≡ map way_of (routes H)

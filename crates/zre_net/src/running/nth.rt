@@ -1,7 +1,5 @@
-ghost use Rattle.std.specs.Prelude.{◌≡◌, ◌+◌, ◌<◌, option_map, IfOk};
+ghost use Rattle.std.specs.Prelude.{◌≡◌, ◌+◌, ◌<◌, length, is_some, option_map, IfSome};
 ghost use Rattle.zre_net.specs.Lists.{nth};
-
-use zre_values::OutOfMemory;
 
 /// What stands under a number of a list that is counted from 1.
 pub(crate) fn nth<T>(items: &[T], number: u64) -> Option<&T>
@@ -11,17 +9,15 @@ pub(crate) fn nth<T>(items: &[T], number: u64) -> Option<&T>
     items.get(place as usize)
 }
 
-/// The place of what stands under a number of a list of so many members that is counted from 1.
-pub(crate) fn place_of(number: u64, members: usize) -> Result<usize, OutOfMemory>
-    ensures { IfOk result (λ place. (number ≡ place + 1) × (place < members)) }
+/// The place of what stands under a number of a list that is counted from 1, if anything does.
+pub(crate) fn place_of<T>(items: &[T], number: u64) -> Option<usize>
+    ensures there { is_some result ≡ is_some (nth number items.now) }
+    ensures place { IfSome result (λ place. (number ≡ place + 1) × (place < length items.now)) }
 {
-    let Some(place) = number.checked_sub(1) else {
-        return Err(OutOfMemory);
-    };
-    let place = place as usize;
-    if place < members {
-        Ok(place)
+    let place = number.checked_sub(1)? as usize;
+    if place < items.len() {
+        Some(place)
     } else {
-        Err(OutOfMemory)
+        None
     }
 }

@@ -1,13 +1,12 @@
 //! Octets of connections come.
 
-ghost use Rattle.std.specs.Prelude.{◌≡◌, ◌≤◌, List, Some, length, IfOk, OnOk};
+ghost use Rattle.std.specs.Prelude.{◌≡◌, ◌≤◌, ◌<◌, ◌-◌, List, Some, true, IfOk, OnOk};
 ghost use Rattle.zre_net.specs.declared.moves.Move.TheVariants as MoveValue;
 ghost use Rattle.zre_net.specs.Comes.{with_move};
 ghost use Rattle.zre_net.specs.History.{Happening};
 ghost use Rattle.zre_net.specs.Lists.{nth as nth_of};
 ghost use Rattle.zre_net.specs.Numbers.{CarriedConn, conns};
-ghost use Rattle.zre_net.specs.Carried.{pending};
-ghost use Rattle.zre_net.specs.Rows.{IsHeard};
+ghost use Rattle.zre_net.specs.Rows.{has_waiting, IsHeard};
 ghost use Rattle.zre_net.specs.Running.{StandsAfter, IsPlayed};
 
 use crate::running::network::Network;
@@ -32,13 +31,21 @@ impl Network {
     // The next octets of a connection come to the start at which it opened: so many of them at most. They are of one
     // part, so that no more than one part is copied, and no more than one message comes. Gives how many came.
     fn hand(&mut self, to: u64, conn: u64, most: u64, at: u64) -> Result<u64, OutOfMemory>
+        // So many wait.
+        requires { has_waiting most (nth_of conn self.old.conns.items) ≡ true }
+        // One comes at least, if any is to; the others still wait.
         ensures few { IfOk result (λ count. count ≤ most) }
+        ensures some { 0 < most → IfOk result (λ count. 0 < count) }
+        ensures rest { IfOk result (λ count. has_waiting (most - count) (nth_of conn self.new.conns.items) ≡ true) }
+        // What comes is a piece.
         ensures come { (H : List Happening) (c : CarriedConn) →
             StandsAfter H self.old → nth_of conn (conns H) ≡ Some c →
             to ≡ c.to.number →
             IfOk result (λ count. StandsAfter (with_move (MoveValue.Piece conn count at) H) self.new) }
     {
-        let place = place_of(conn, self.conns.len())?;
+        let Some(place) = place_of(self.conns.as_slice(), conn) else {
+            unreachable!();
+        };
         let octets = hear(&mut self.conns[place], most)?;
         let count = octets.len() as u64;
         let Some(pending) = self.pending.checked_sub(count) else {
@@ -52,28 +59,25 @@ impl Network {
 
     // So many octets come, part by part: cut or not, a piece brings about the same.
     fn hand_all(&mut self, to: u64, conn: u64, count: u64, at: u64) -> Result<(), OutOfMemory>
+        requires { has_waiting count (nth_of conn self.old.conns.items) ≡ true }
         ensures { (H : List Happening) (c : CarriedConn) → StandsAfter H self.old → nth_of conn (conns H) ≡ Some c →
             to ≡ c.to.number → OnOk result (StandsAfter (with_move (MoveValue.Piece conn count at) H) self.new) }
     {
         let mut left = count - self.hand(to, conn, count, at)?;
         'parts: while left > 0 {
             let came = self.hand(to, conn, left, at)?;
-            if came == 0 {
-                return Err(OutOfMemory);
-            }
             left -= came;
         }
         Ok(())
     }
 
-    // How many octets a connection has yet to hand in.
-    fn waits(&self, conn: u64) -> u64
-        ensures { (H : List Happening) (c : CarriedConn) → StandsAfter H self.now → nth_of conn (conns H) ≡ Some c →
-            result ≡ length (pending conn H) }
+    // Whether so many octets wait on a connection, where it is there.
+    fn has_waiting(&self, conn: u64, count: u64) -> bool
+        ensures { result ≡ has_waiting count (nth_of conn self.now.conns.items) }
     {
         match nth(self.conns.as_slice(), conn) {
-            Some(carrier) => carrier.waiting.len(),
-            None => 0,
+            Some(carrier) => count <= carrier.waiting.len(),
+            None => false,
         }
     }
 
@@ -85,7 +89,7 @@ impl Network {
         let Some(to) = self.receiver(conn) else {
             return Ok(false);
         };
-        if count > self.waits(conn) {
+        if !self.has_waiting(conn, count) {
             return Ok(false);
         }
         self.hand_all(to, conn, count, at)?;

@@ -138,7 +138,9 @@ impl Network {
         let Some(start) = self.runner(node) else {
             return Ok(false);
         };
-        let place = place_of(start, self.started.len())?;
+        let Some(place) = place_of(self.started.as_slice(), start) else {
+            return Err(OutOfMemory);
+        };
         stop(&mut self.started[place]);
         set_running(&mut self.running, node, None)?;
         Ok(true)
@@ -224,11 +226,10 @@ impl Network {
         ensures { (H : List Happening) → StandsAfter H self.old →
             IfOk result (λ may. IsPlayed (MoveValue.Carry conn part) H may self.new) }
     {
-        let Some(carrier) = nth(self.conns.as_slice(), conn) else {
+        let Some(place) = place_of(self.conns.as_slice(), conn) else {
             return Ok(false);
         };
-        let along = carrier.along;
-        let place = place_of(conn, self.conns.len())?;
+        let along = self.conns[place].along;
         let Some(octets) = self.spelled(along, part)? else {
             return Ok(false);
         };

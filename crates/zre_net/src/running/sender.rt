@@ -1,6 +1,6 @@
 //! A node, and all messages that it has put on its links.
 
-ghost use Rattle.std.specs.Prelude.{◌≡◌, ◌++◌, ◌∷◌, [], List, length, replicate, true, is_some, OnOk, IfOk, IfSome};
+ghost use Rattle.std.specs.Prelude.{◌≡◌, ◌++◌, ◌∷◌, [], List, length, replicate, true, false, is_some, OnOk, IfOk, IfSome};
 ghost use Rattle.zre_outside.specs.declared.entry.Entry.{Entry as EntryValue};
 ghost use Rattle.zre_zmtp.specs.Laws.{handshake as handshake_of};
 ghost use Rattle.zre_zmtp.specs.declared.writing.SocketType.TheVariants.{Dealer};
@@ -137,7 +137,7 @@ impl Sender {
         ensures steps { (g : Config) (J : List EntryValue) → HasSent g J self.old →
             is_slight g entry.input (chronicle g J) (Comes entry ∷ chronicle g J) →
             IfOk result (λ s. Stepped g J entry s × HasSent g (J ++ entry ∷ []) self.new) }
-        ensures live { OnOk result (is_some self.new.node ≡ true) }
+        ensures live { OnOk result ((is_some self.old.node ≡ true) × (is_some self.new.node ≡ true)) }
     {
         match &mut self.node {
             Some(node) => step(self.alloc, node, &mut self.lines, self.handshake, entry),
@@ -159,6 +159,7 @@ impl Sender {
 
     /// The node is gone. What it had put on its links stays.
     pub fn stop(&mut self)
+        ensures gone { is_some self.new.node ≡ false }
         ensures sent { (g : Config) (J : List EntryValue) → HasSent g J self.old → HasSent g J self.new }
         ensures lines { self.new.lines ≡ self.old.lines }
     {

@@ -129,7 +129,7 @@ impl Network {
         ensures conns { OnOk result (self.new.conns ≡ self.old.conns) }
         ensures pending { OnOk result (self.new.pending ≡ self.old.pending) }
     {
-        let Ok(place) = place_of(start, self.started.len()) else {
+        let Some(place) = place_of(self.started.as_slice(), start) else {
             drop(input);
             return Err(OutOfMemory);
         };

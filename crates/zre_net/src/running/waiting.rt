@@ -1,6 +1,7 @@
 //! What a connection has yet to hand in.
 
-ghost use Rattle.std.specs.Prelude.{◌≡◌, ◌++◌, ◌≤◌, [], length, take, drop, OnOk, IfOk};
+ghost use Rattle.std.specs.Prelude.{◌≡◌, ◌++◌, ◌≤◌, ◌<◌, [], All, length, take, drop, OnOk, IfOk};
+ghost use Rattle.zre_link.specs.Front.{HasOctets};
 ghost use Rattle.zre_net.specs.Lists.{joined};
 
 use crate::running::spelling::Spelling;
@@ -13,6 +14,7 @@ use zre_values::{List, OutOfMemory, take_apart};
 /// Octets that wait: the rest of one part, and the parts after it. Parts are shared with those who hold the same.
 pub(crate) struct Waiting {
     front: Bytes,
+    /// The parts after it: none of them is empty.
     parts: VecDeque<Bytes>,
     count: u64,
 }
@@ -24,14 +26,32 @@ impl Drop for Waiting {
 }
 
 impl Model for Waiting {
-    ghost use Rattle.std.specs.Prelude.{◌≡◌, ◌++◌, ℕ, List, length};
+    ghost use Rattle.std.specs.Prelude.{◌≡◌, ◌++◌, ℕ, List, All, length};
+    ghost use Rattle.zre_link.specs.Front.{HasOctets};
     ghost use Rattle.zre_net.specs.Lists.{joined};
 
     ghost Value = { List ℕ };
 
     ghost view = { λ w. w.front ++ joined w.parts.items };
 
-    ghost invariant = { λ w. w.count ≡ length (w.front ++ joined w.parts.items) };
+    ghost invariant = { λ w. (w.count ≡ length (w.front ++ joined w.parts.items)) × All HasOctets w.parts.items };
+}
+
+// Where the part at the front is taken whole, the next one stands there.
+fn refill(front: &mut Bytes, parts: &mut VecDeque<Bytes>)
+    // The parts after the front have octets, before and after.
+    requires { All HasOctets parts.old.items }
+    ensures parts { All HasOctets parts.new.items }
+    // The octets are the same. Where there are any, the front has some.
+    ensures same { front.new ++ joined parts.new.items ≡ front.old ++ joined parts.old.items }
+    ensures some { HasOctets (front.new ++ joined parts.new.items) → HasOctets front.new }
+{
+    if !front.is_empty() {
+        return;
+    }
+    if let Some(part) = parts.pop_front() {
+        *front = part;
+    }
 }
 
 impl Waiting {
@@ -88,25 +108,14 @@ impl Waiting {
         self.push_all(more)
     }
 
-    // Where the part at the front is taken whole, the next one stands there.
-    fn refill(&mut self)
-        ensures { self.new ≡ self.old }
-    {
-        if !self.front.is_empty() {
-            return;
-        }
-        if let Some(part) = self.parts.pop_front() {
-            self.front = part;
-        }
-    }
-
-    /// The next octets, of one part: so many of them at most.
+    /// The next octets, of one part: so many of them at most, and one at least where any wait.
     pub fn take(&mut self, most: u64) -> Result<Bytes, OutOfMemory>
         ensures next { IfOk result (λ b. b ≡ take (length b) self.old) }
         ensures few { IfOk result (λ b. length b ≤ most) }
+        ensures some { 0 < most → HasOctets self.old → IfOk result (λ b. HasOctets b) }
         ensures rest { IfOk result (λ b. self.new ≡ drop (length b) self.old) }
     {
-        self.refill();
+        refill(&mut self.front, &mut self.parts);
         let count = most.min(self.front.len() as u64);
         let octets = self.front.split_to(count as usize)?;
         self.count -= count;

@@ -1,4 +1,4 @@
-use Rattle.std.proofs.Common.{◌∙◌, ◌-◌, ap, sym, subst, arith, drop, refl}
+use Rattle.std.proofs.Common.{◌∙◌, ap, sym, subst, arith, drop, refl}
 use Rattle.zre_net.specs.Texts.{AreThere}
 use Rattle.zre_net.proofs.Texts.{all_stay, one_there}
 use Rattle.zre_net.proofs.Rows.{none_noted, one_noted, one_counted}

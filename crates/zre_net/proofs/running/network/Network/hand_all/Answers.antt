@@ -10,6 +10,7 @@ parts-init c =
     let f = c.in_ok-left.ensures.few in
     let same : c.in_ok-left.field-0 ≡ c.args.count - (c.args.count - c.in_ok-left.field-0) = omega (arith, f) in record {
       few = omega arith;
+      rest = c.in_ok-left.ensures.rest;
       come = λ H d s t e. subst (λ (k : ℕ). StandsAfter (with_move (move.Piece c.args.conn k c.args.at) H) c.hand.new.self) same (c.in_ok-left.ensures.come H d s t e);
     }
 
@@ -18,6 +19,7 @@ parts-preserved c =
     let i = c.parts.invariant in
     let f = c.in_ok-came.ensures.few in record {
       few = (let w = i.few in omega (arith, w, f));
+      rest = c.in_ok-came.ensures.rest;
       come = λ H d s t e. hand_on H c.args.conn c.args.count c.parts.left c.in_ok-came.came c.args.at d c.args.self.now c.hand-in-parts.new.self s t i.few f
           (c.in_ok-came.ensures.come (with_move (move.Piece c.args.conn (c.args.count - c.parts.left) c.args.at) H) d (i.come H d s t e) t e);
     }

@@ -1,6 +1,9 @@
-use Rattle.std.proofs.Common.{le-ltb}
-use Rattle.zre_net.proofs.Piecing.{piece_played}
+use Rattle.std.proofs.Common.{◌∙◌, sym}
+use Rattle.zre_net.proofs.Piecing.{piece_refused, piece_played, waiting_is}
 use Rattle.zre_net.proofs.running.network.Network.piece.Goals as goal
 
+pub returns-then-not-has_waiting : goal.returns-then-not-has_waiting
+returns-then-not-has_waiting c = λ H s. piece_refused H c.args.conn c.args.count c.args.at c.in-Some.to c.args.self.now (c.in-Some.ensures H s) (λ d t. waiting_is H c.args.self.now s c.args.conn c.args.count d t) (sym c.has_waiting.ensures ∙ c.if-not-has_waiting.true)
+
 pub returns : goal.returns
-returns c = λ H s. piece_played H c.args.conn c.args.count c.args.at c.in-Some.to c.args.self.now c.hand_all.new.self c.waits.result (c.in-Some.ensures H s) (λ d t. c.waits.ensures H d s t) (le-ltb c.waits.result c.args.count c.if-count-waits.false) (λ d t e. c.in_ok-hand_all.ensures H d s t e)
+returns c = λ H s. piece_played H c.args.conn c.args.count c.args.at c.in-Some.to c.args.self.now (c.in-Some.ensures H s) (λ d t. waiting_is H c.args.self.now s c.args.conn c.args.count d t) c.hand_all.new.self (sym c.has_waiting.ensures ∙ c.if-not-has_waiting.false) (λ d t e. c.in_ok-hand_all.ensures H d s t e)
