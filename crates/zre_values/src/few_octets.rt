@@ -44,6 +44,17 @@ impl<const N: usize> FewOctets<N> {
         few
     }
 
+    /// The same octets once more. The whole value is copied, so their number doesn't matter.
+    #[inline(always)]
+    pub fn twin(&self) -> Self
+        ensures { result ≡ self.now }
+    {
+        FewOctets {
+            octets: self.octets,
+            count: self.count,
+        }
+    }
+
     /// The octets, where they lie.
     #[inline(always)]
     pub fn as_slice(&self) -> &[u8]

@@ -81,6 +81,7 @@ impl Frames {
     }
 
     /// Appends a member, or nothing.
+    #[inline(always)]
     pub fn push(&mut self, frame: Octets) -> Result<(), OutOfMemory>
         ensures ok { OnOk result (self.new ≡ self.old ++ frame ∷ []) }
         ensures err { OnErr result (self.new ≡ self.old) }
@@ -126,6 +127,7 @@ impl Frames {
     }
 
     /// Where the first member that equals this one stands, if there is one.
+    #[inline(always)]
     pub fn place_of(&self, frame: &[u8]) -> Option<usize>
         ensures { MatchOption result (without frame.now self.now ≡ self.now)
             (λ i. (i < length self.now) × (without frame.now self.now ≡ remove self.now i)) }
@@ -143,6 +145,7 @@ impl Frames {
     }
 }
 
+#[inline(always)]
 fn place_of(items: &[Octets], frame: &[u8]) -> Option<usize>
     ensures { MatchOption result (without frame.now items.now ≡ items.now)
         (λ i. (i < length items.now) × (without frame.now items.now ≡ remove items.now i)) }

@@ -31,7 +31,9 @@ pub use memory::OutOfMemory;
 pub use octets::Octets;
 pub use pairs::Pairs;
 pub use peer_id::PeerId;
-pub use quoting::{push_quoted, push_quoted_frames, push_quoted_list, push_quoted_pairs, quote};
+pub use quoting::{
+    push_field, push_quoted, push_quoted_frames, push_quoted_list, push_quoted_pairs, quote,
+};
 pub use settings::{DAY, NAME_OCTETS, Settings, VALUE_OCTETS};
 pub use texts::push_decimal;
 pub use unquoting::{is_quoted, octets_are_quoted_once, unquote};

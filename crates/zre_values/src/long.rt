@@ -1,6 +1,6 @@
 //! Many octets, in memory of their own. Its end is filled with zeros, so texts are written where they will stand.
 
-ghost use Rattle.std.specs.Prelude.{◌≡◌, ◌≤◌, [], ◌∷◌, ◌++◌, flat_map, length, OnOk, OnErr};
+ghost use Rattle.std.specs.Prelude.{◌≡◌, ◌≤◌, [], ◌∷◌, ◌++◌, ◌+◌, flat_map, length, take, OnOk, OnErr};
 ghost use Rattle.zre_values.specs.Stored.{MakesRoom};
 ghost use Rattle.zre_values.specs.Text.{quoted_octet};
 
@@ -52,6 +52,23 @@ fn make_room(items: &mut Vec<u8>, count: usize, more: usize) -> Result<(), OutOf
         return Ok(());
     }
     grow(items, count, more)
+}
+
+// Writes octets as they are at a place, and gives the place after them.
+#[inline(always)]
+fn write_plain(text: &mut [u8], at: usize, bytes: &[u8]) -> usize
+    requires { at + length bytes.now ≤ length text.old }
+    ensures text { take result text.new ≡ take at text.old ++ bytes.now }
+    ensures place { result ≡ at + length bytes.now }
+    ensures size { length text.new ≡ length text.old }
+{
+    if bytes.is_empty() {
+        return at;
+    }
+    let end = at + bytes.len();
+    let room = &mut text[at..end];
+    room.copy_from_slice(bytes);
+    end
 }
 
 impl Long {
@@ -117,6 +134,30 @@ impl Long {
     {
         make_room(&mut self.items, self.count, 3 * bytes.len() + 1)?;
         self.count = write_octets(self.items.as_mut_slice(), self.count, bytes);
+        Ok(())
+    }
+
+    // Appends some octets as they are, the quoted text of others, and one octet, or nothing.
+    pub(crate) fn append_field(
+        &mut self,
+        before: &[u8],
+        field: &[u8],
+        after: u8,
+    ) -> Result<(), OutOfMemory>
+        requires before { length before.now ≤ CHUNK }
+        requires field { length field.now ≤ CHUNK }
+        ensures ok { OnOk result (self.new ≡ self.old ++ before.now ++ flat_map quoted_octet field.now ++ after ∷ []) }
+        ensures err { OnErr result (self.new ≡ self.old) }
+    {
+        make_room(
+            &mut self.items,
+            self.count,
+            before.len() + 3 * field.len() + 1,
+        )?;
+        let start = write_plain(self.items.as_mut_slice(), self.count, before);
+        let end = write_octets(self.items.as_mut_slice(), start, field);
+        self.items[end] = after;
+        self.count = end + 1;
         Ok(())
     }
 }

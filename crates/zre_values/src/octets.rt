@@ -65,6 +65,20 @@ impl Octets {
         })
     }
 
+    /// A copy of the list, in memory of its own.
+    #[inline(always)]
+    pub fn try_clone(&self) -> Result<Self, OutOfMemory>
+        ensures { IfOk result (λ octets. octets ≡ self.now) }
+    {
+        match &self.store {
+            Buffer::Inline(short) => Ok(Octets {
+                store: Buffer::Inline(short.twin()),
+                alloc: self.alloc,
+            }),
+            Buffer::Heap(long) => Octets::copy(self.alloc, long.as_slice()),
+        }
+    }
+
     /// The octets of a vector. Its memory is kept where they don't fit into the value.
     pub fn from_vec(items: Vec<u8>) -> Self
         ensures { result ≡ items.items }
@@ -184,6 +198,40 @@ impl Octets {
     {
         let mut long = Long::new(with_both(self.alloc, self.as_slice(), &[])?);
         long.append_quoted(bytes)?;
+        self.store = Buffer::Heap(long);
+        Ok(())
+    }
+
+    // Appends some octets as they are, the quoted text of others, and one octet, or nothing.
+    #[inline(always)]
+    pub(crate) fn append_field(
+        &mut self,
+        before: &[u8],
+        field: &[u8],
+        after: u8,
+    ) -> Result<(), OutOfMemory>
+        requires before { length before.now ≤ CHUNK }
+        requires field { length field.now ≤ CHUNK }
+        ensures ok { OnOk result (self.new ≡ self.old ++ before.now ++ flat_map quoted_octet field.now ++ after ∷ []) }
+        ensures err { OnErr result (self.new ≡ self.old) }
+    {
+        match &mut self.store {
+            Buffer::Heap(long) => long.append_field(before, field, after),
+            Buffer::Inline(_) => self.spill_field(before, field, after),
+        }
+    }
+
+    // The same, to a list that lies in the value. The whole list goes into memory of its own.
+    #[cold]
+    #[inline(never)]
+    fn spill_field(&mut self, before: &[u8], field: &[u8], after: u8) -> Result<(), OutOfMemory>
+        requires before { length before.now ≤ CHUNK }
+        requires field { length field.now ≤ CHUNK }
+        ensures ok { OnOk result (self.new ≡ self.old ++ before.now ++ flat_map quoted_octet field.now ++ after ∷ []) }
+        ensures err { OnErr result (self.new ≡ self.old) }
+    {
+        let mut long = Long::new(with_both(self.alloc, self.as_slice(), &[])?);
+        long.append_field(before, field, after)?;
         self.store = Buffer::Heap(long);
         Ok(())
     }

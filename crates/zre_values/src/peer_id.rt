@@ -1,4 +1,4 @@
-ghost use Rattle.std.specs.Prelude.{◌≡◌, ◌++◌, length, option_map, OnOk, OnErr};
+ghost use Rattle.std.specs.Prelude.{◌≡◌, ◌++◌, codes, length, option_map, OnOk, OnErr};
 ghost use Rattle.uuid.specs.Text.{parsed};
 
 use crate::quoted_table::row_of;
@@ -41,6 +41,17 @@ impl PeerId {
             text[2 * i + 1] = row[2];
             i += 1;
         }
+        text
+    }
+
+    /// The thirty-two digits and a space.
+    #[inline]
+    pub fn write_spaced(self) -> [u8; 33]
+        ensures { result ≡ id_text self ++ codes " " }
+    {
+        let mut text = [b' '; 33];
+        let (digits, _) = text.split_at_mut(32);
+        digits.copy_from_slice(&self.write());
         text
     }
 

@@ -1,6 +1,6 @@
 //! The quoted text of octets, in which every event and every capture is written.
 
-ghost use Rattle.std.specs.Prelude.{◌≡◌, ◌<◌, ◌≤◌, ◌+◌, ◌*◌, ◌++◌, flat_map, length, take, IfOk, OnOk};
+ghost use Rattle.std.specs.Prelude.{◌≡◌, ◌<◌, ◌≤◌, ◌+◌, ◌*◌, ◌++◌, [], ◌∷◌, flat_map, length, take, IfOk, OnOk};
 ghost use Rattle.std.specs.List.{list_all};
 ghost use Rattle.zre_values.specs.Text.{hex_digit, is_plain, quoted_octet, quoted, quoted_list, quoted_pair};
 ghost use Rattle.zre_values.specs.Text.{quoted_pairs};
@@ -52,7 +52,8 @@ fn write_octet(text: &mut [u8], at: usize, octet: u8) -> usize
 pub(crate) fn write_octets(text: &mut [u8], at: usize, bytes: &[u8]) -> usize
     requires { at + 3 * length bytes.now + 1 ≤ length text.old }
     ensures text { take result text.new ≡ take at text.old ++ flat_map quoted_octet bytes.now }
-    ensures place { result ≤ length text.new }
+    ensures place { result ≤ at + 3 * length bytes.now }
+    ensures size { length text.new ≡ length text.old }
 {
     let mut end = at;
     for octet in bytes {
@@ -78,6 +79,38 @@ pub fn push_quoted(out: &mut Octets, bytes: &[u8]) -> Result<(), OutOfMemory>
         rest = later;
     }
     Ok(())
+}
+
+/// Appends some octets as they are, the quoted text of others, and one octet. After an error a front of it may stand
+/// there.
+#[inline]
+pub fn push_field(
+    out: &mut Octets,
+    before: &[u8],
+    field: &[u8],
+    after: u8,
+) -> Result<(), OutOfMemory>
+    ensures { OnOk result (out.new ≡ out.old ++ before.now ++ quoted field.now ++ after ∷ []) }
+{
+    if field.is_empty() || field.len() > CHUNK || before.len() > CHUNK {
+        return push_rare_field(out, before, field, after);
+    }
+    out.append_field(before, field, after)
+}
+
+// A field that is empty or long.
+#[inline(never)]
+fn push_rare_field(
+    out: &mut Octets,
+    before: &[u8],
+    field: &[u8],
+    after: u8,
+) -> Result<(), OutOfMemory>
+    ensures { OnOk result (out.new ≡ out.old ++ before.now ++ quoted field.now ++ after ∷ []) }
+{
+    out.append(before)?;
+    push_quoted(out, field)?;
+    out.push(after)
 }
 
 /// Appends the quoted members of a list, joined by commas. After an error a front of it may stand there.
