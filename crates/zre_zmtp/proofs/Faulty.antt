@@ -46,3 +46,8 @@ size_missing b o some fine missing =
     sym (ap (λ (t : Bool). told t (has_header o) x y) (le-leb 1 (length o) some)
     ∙ ap (λ (f : Option ZmtpWhy). told true (has_header o) f y) fine
     ∙ ap (λ (t : Bool). told true t None y) (no_header o missing))
+
+-- not all of the header is there: what is wrong is what is wrong with the flags
+pub header_missing : (b : Before) (o : List ℕ) (r : Option ZmtpWhy) → 1 ≤ length o → header_of o ≡ None → r ≡ flags_fault b (flags o) → r ≡ header_fault b o
+header_missing b o None some missing is = size_missing b o some (sym is) missing
+header_missing b o (Some why) some missing is = flags_wrong b o why some (sym is)

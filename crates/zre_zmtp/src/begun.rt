@@ -9,7 +9,7 @@ ghost use Rattle.zre_zmtp.specs.declared.item.Item.{Item};
 
 use crate::expected::Expected;
 use crate::fault::{Fed, FeedFault, ZmtpFault};
-use crate::faults::fault_of_header;
+use crate::faults::fault_of_whole;
 use crate::head::Head;
 use crate::header::{Header, header_len, read_header};
 use crate::looks::{Steps, Store};
@@ -47,7 +47,7 @@ pub fn begin_frame<L: Ledger>(
     ensures looks { LooksOnce steps.old steps.new (held progress.old) (held progress.new) (length octets.now) result }
 {
     let (head, later) = octets.split_at(header_len(octets));
-    if let Some(why) = fault_of_header(progress, head) {
+    if let Some(why) = fault_of_whole(progress, header) {
         let place = progress.place;
         return Err(FeedFault::Zmtp(ZmtpFault { why, place }));
     }

@@ -1,14 +1,14 @@
 //! What is wrong at the front of a part: in the octets of a greeting, or in the header of a frame.
 
-ghost use Rattle.std.specs.Prelude.{◌≡◌, ◌&&◌, nat_le, length};
+ghost use Rattle.std.specs.Prelude.{◌≡◌, ◌&&◌, ℕ, List, Some, nat_le, length};
 ghost use Rattle.std.specs.Option.{option_or};
-ghost use Rattle.zre_zmtp.specs.Frame.{flags as flags_of, size as size_of, has_header};
+ghost use Rattle.zre_zmtp.specs.Frame.{flags as flags_of, size as size_of, has_header, header_of};
 ghost use Rattle.zre_zmtp.specs.Stream.{once, flags_fault, size_fault, octet_fault};
 ghost use Rattle.zre_zmtp.specs.Shown.{before_of, header_fault};
 
 use crate::expected::Expected;
 use crate::fault::ZmtpWhy;
-use crate::header::{is_message, read_header};
+use crate::header::{Header, is_message, read_header};
 use crate::progress::Progress;
 use zre_values::limits::{COMMAND_OCTETS, MESSAGE_FRAMES, MESSAGE_OCTETS};
 
@@ -35,6 +35,7 @@ pub fn fault_of_octet(i: usize, octet: u8) -> Option<ZmtpWhy>
     None
 }
 
+#[inline(always)]
 fn fault_of_flags(progress: &Progress, flags: u8) -> Option<ZmtpWhy>
     ensures { result ≡ flags_fault (before_of progress.now) flags }
 {
@@ -50,6 +51,7 @@ fn fault_of_flags(progress: &Progress, flags: u8) -> Option<ZmtpWhy>
     None
 }
 
+#[inline(always)]
 fn fault_of_size(progress: &Progress, flags: u8, size: u64) -> Option<ZmtpWhy>
     ensures { result ≡ size_fault (before_of progress.now) flags size }
 {
@@ -63,6 +65,17 @@ fn fault_of_size(progress: &Progress, flags: u8, size: u64) -> Option<ZmtpWhy>
     None
 }
 
+/// What is wrong with the header of a frame, where all of it is there.
+#[inline(always)]
+pub fn fault_of_whole(progress: &Progress, header: Header) -> Option<ZmtpWhy>
+    ensures { (o : List ℕ) → header_of o ≡ Some header → result ≡ header_fault (before_of progress.now) o }
+{
+    match fault_of_flags(progress, header.flags) {
+        Some(why) => Some(why),
+        None => fault_of_size(progress, header.flags, header.size),
+    }
+}
+
 /// What is wrong with the header of a frame, or with what is there of it.
 pub fn fault_of_header(progress: &Progress, octets: &[u8]) -> Option<ZmtpWhy>
     ensures { result ≡ header_fault (before_of progress.now) octets.now }
@@ -70,11 +83,8 @@ pub fn fault_of_header(progress: &Progress, octets: &[u8]) -> Option<ZmtpWhy>
     if octets.is_empty() {
         return None;
     }
-    if let Some(why) = fault_of_flags(progress, octets[0]) {
-        return Some(why);
-    }
     match read_header(octets) {
-        Some(header) => fault_of_size(progress, header.flags, header.size),
-        None => None,
+        Some(header) => fault_of_whole(progress, header),
+        None => fault_of_flags(progress, octets[0]),
     }
 }

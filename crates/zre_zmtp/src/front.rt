@@ -17,9 +17,9 @@ pub struct Front<'a> {
     pub len: usize,
 }
 
-// A whole frame of a message at the front of some octets: its header, its body and what stands after it.
-#[inline(always)]
-pub(crate) fn frame_at(octets: &[u8]) -> Option<(Header, &[u8], &[u8])>
+// A whole frame with a long size.
+#[inline(never)]
+fn long_frame_at(octets: &[u8]) -> Option<(Header, &[u8], &[u8])>
     ensures { IfSome result (λ found. BeginsWith found.0 found.1.now found.2.now octets.now) }
 {
     let header = read_header(octets)?;
@@ -31,6 +31,31 @@ pub(crate) fn frame_at(octets: &[u8]) -> Option<(Header, &[u8], &[u8])>
         return None;
     }
     let (body, rest) = later.split_at(header.size as usize);
+    Some((header, body, rest))
+}
+
+// A whole frame of a message at the front of some octets: its header, its body and what stands after it.
+#[inline(always)]
+pub(crate) fn frame_at(octets: &[u8]) -> Option<(Header, &[u8], &[u8])>
+    ensures { IfSome result (λ found. BeginsWith found.0 found.1.now found.2.now octets.now) }
+{
+    if octets.len() < 2 {
+        return None;
+    }
+    let flags = octets[0];
+    if flags > 1 {
+        return long_frame_at(octets);
+    }
+    let size = octets[1];
+    let (_, later) = octets.split_at(2);
+    if size as usize > later.len() {
+        return None;
+    }
+    let (body, rest) = later.split_at(size as usize);
+    let header = Header {
+        flags,
+        size: u64::from(size),
+    };
     Some((header, body, rest))
 }
 

@@ -41,30 +41,36 @@ pub fn header_len(octets: &[u8]) -> usize
     if is_long(octets[0]) { 9 } else { 2 }
 }
 
-// The size field, after the flags octet.
-fn size_field(octets: &[u8]) -> u64
+// What a header with a long size says, where all of it is there.
+#[inline(never)]
+fn read_long(octets: &[u8]) -> Option<Header>
     requires some { 1 ≤ length octets.now }
-    requires header { len_of_header octets.now ≤ length octets.now }
-    ensures { result ≡ size octets.now }
-{
-    if is_long(octets[0]) {
-        u64::from_be_bytes([
-            octets[1], octets[2], octets[3], octets[4], octets[5], octets[6], octets[7], octets[8],
-        ])
-    } else {
-        u64::from(octets[1])
-    }
-}
-
-/// What the header at the front of some octets says, where all of it is there.
-pub fn read_header(octets: &[u8]) -> Option<Header>
+    requires long { len_of_header octets.now ≡ 9 }
     ensures { result ≡ header_of octets.now }
 {
-    if octets.is_empty() || octets.len() < header_len(octets) {
+    if octets.len() < 9 {
         return None;
     }
     Some(Header {
         flags: octets[0],
-        size: size_field(octets),
+        size: u64::from_be_bytes([
+            octets[1], octets[2], octets[3], octets[4], octets[5], octets[6], octets[7], octets[8],
+        ]),
     })
+}
+
+/// What the header at the front of some octets says, where all of it is there.
+#[inline(always)]
+pub fn read_header(octets: &[u8]) -> Option<Header>
+    ensures { result ≡ header_of octets.now }
+{
+    if octets.len() < 2 {
+        return None;
+    }
+    let flags = octets[0];
+    if is_long(flags) {
+        return read_long(octets);
+    }
+    let size = u64::from(octets[1]);
+    Some(Header { flags, size })
 }

@@ -6,7 +6,7 @@ ghost use Rattle.zre_zmtp.specs.Lending.{TakesPiece, LooksIfTaken, IsBetweenFram
 ghost use Rattle.zre_zmtp.specs.Shown.{held};
 
 use crate::bodies::{Bodies, Came, Taken};
-use crate::faults::fault_of_header;
+use crate::faults::{fault_of_header, fault_of_whole};
 use crate::head::Head;
 use crate::header::read_header;
 use crate::looks::{Steps, Store};
@@ -52,7 +52,7 @@ impl Progress {
         if header.size == 0 {
             return Ok(Came::Other);
         }
-        if let Some(_) = fault_of_header(self, head.as_slice()) {
+        if let Some(_) = fault_of_whole(self, header) {
             return Ok(Came::Other);
         }
         let (_, later) = piece.split_at(1);

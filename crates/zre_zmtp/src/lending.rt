@@ -7,7 +7,7 @@ ghost use Rattle.zre_zmtp.specs.Lending.{IsBetweenFrames, IsInBody};
 
 use crate::bodies::{Bodies, Came, LentBodies, Taken};
 use crate::expected::Expected;
-use crate::faults::fault_of_header;
+use crate::faults::fault_of_whole;
 use crate::front::frame_at;
 use crate::header::{Header, has_more, header_len, is_message, read_header};
 use crate::looks::Steps;
@@ -137,7 +137,7 @@ impl Progress {
         if header.size <= later.len() as u64 {
             return self.begin_past(piece, header, bodies, steps);
         }
-        if let Some(_) = fault_of_header(self, head) {
+        if let Some(_) = fault_of_whole(self, header) {
             return Ok(Came::Other);
         }
         self.partial.begin(header, head, later, steps)?;

@@ -17,7 +17,7 @@ use crate::begun::{begin_frame, header_at};
 use crate::command::{command_fault, identity, name, socket_type};
 use crate::expected::Expected;
 use crate::fault::{Fed, FeedFault, ZmtpFault, ZmtpWhy};
-use crate::faults::fault_of_header;
+use crate::faults::{fault_of_header, fault_of_whole};
 use crate::head::Head;
 use crate::header::{Header, has_more, header_len, is_message, read_header};
 use crate::item::{Item, Items, What, push_message};
@@ -385,7 +385,7 @@ impl Progress {
         ensures looks_most { steps.new ≤ steps.old + header.size }
     {
         let (head, later) = octets.split_at(header_len(octets));
-        if let Some(why) = fault_of_header(self, head) {
+        if let Some(why) = fault_of_whole(self, header) {
             let place = self.place;
             return Err(FeedFault::Zmtp(ZmtpFault { why, place }));
         }

@@ -13,7 +13,7 @@ returns-in-Some-clause-refused g c =
     let o = c.args.octets.now in
     let at = head_of c.args.header o c.split_at.result.0.now c.split_at.result.1.now c.requires.begun.header
     (c.split_at.ensures.front ∙ ap (λ n. take n o) c.header_len.ensures) (c.split_at.ensures.back ∙ ap (λ n. drop n o) c.header_len.ensures) in
-    let bad : header_fault b c.split_at.result.0.now ≡ Some c.in-Some.why = sym c.fault_of_header.ensures ∙ c.in-Some.is in
+    let bad : header_fault b c.split_at.result.0.now ≡ Some c.in-Some.why = sym (c.fault_of_whole.ensures c.split_at.result.0.now at.header) ∙ c.in-Some.is in
     λ want out.
     turn_refused want b o out out _
     (ap (λ (x : List ℕ). fault_of want b x) at.whole
@@ -28,7 +28,7 @@ returns-clause-ok g c =
     let at = head_of c.args.header o head later c.requires.begun.header
     (c.split_at.ensures.front ∙ ap (λ n. take n o) c.header_len.ensures) (c.split_at.ensures.back ∙ ap (λ n. drop n o) c.header_len.ensures) in
     let is : IsHeader c.args.header head = is_header c.args.header head at.header at.within in
-    let fine : header_fault b head ≡ None = sym c.fault_of_header.ensures ∙ c.in_default.is in
+    let fine : header_fault b head ≡ None = sym (c.fault_of_whole.ensures head at.header) ∙ c.in_default.is in
     let parts : length o ≡ length head + length later = ap length at.whole ∙ length-append head later in
     let lt : length later < c.args.header.size = omega (arith, at.exact, parts, c.requires.unfinished) in
     let now = left-frame c.args.progress.now.expected c.args.progress.now.greeting c.of.result c.add.new.self c.requires.begun.frame

@@ -1,7 +1,7 @@
 use Rattle.std.proofs.Common.{◌≡◌, ◌≤◌, ◌==◌, List, ℕ, Bool, false, length, sym, ◌∙◌, arith}
 use Rattle.std.proofs.lemmas.Bool.{eqb-true, eqb-false}
 use Rattle.zre_zmtp.specs.Shown.{before_of}
-use Rattle.zre_zmtp.proofs.Faulty.{none_there, flags_wrong, size_there, size_missing}
+use Rattle.zre_zmtp.proofs.Faulty.{none_there, header_missing}
 use Rattle.zre_zmtp.proofs.faults.fault_of_header.Goals as goal
 
 some_there : (o : List ℕ) (empty : Bool) → empty ≡ (length o == 0) → empty ≡ false → 1 ≤ length o
@@ -11,19 +11,7 @@ pub returns-then-is_empty : goal.returns-then-is_empty
 returns-then-is_empty c =
     none_there (before_of c.args.progress.now) c.args.octets.now (eqb-true _ _ (sym c.is_empty.ensures ∙ c.if-is_empty.true))
 
-pub returns-in-Some : goal.returns-in-Some
-returns-in-Some c =
-    let some = some_there c.args.octets.now c.is_empty.result c.is_empty.ensures c.if-is_empty.false in
-    flags_wrong (before_of c.args.progress.now) c.args.octets.now c.in-Some.why some (sym c.fault_of_flags.ensures ∙ c.in-Some.is)
-
-pub returns-in-Some-read_header : goal.returns-in-Some-read_header
-returns-in-Some-read_header c =
-    let some = some_there c.args.octets.now c.is_empty.result c.is_empty.ensures c.if-is_empty.false in
-    size_there (before_of c.args.progress.now) c.args.octets.now c.in-Some-read_header.header c.fault_of_size.result some
-    (sym c.fault_of_flags.ensures ∙ c.in_default.is) (sym c.read_header.ensures ∙ c.in-Some-read_header.is) c.fault_of_size.ensures
-
 pub returns-in-None : goal.returns-in-None
 returns-in-None c =
     let some = some_there c.args.octets.now c.is_empty.result c.is_empty.ensures c.if-is_empty.false in
-    size_missing (before_of c.args.progress.now) c.args.octets.now some
-    (sym c.fault_of_flags.ensures ∙ c.in_default.is) (sym c.read_header.ensures ∙ c.in-None.is)
+    header_missing (before_of c.args.progress.now) c.args.octets.now c.fault_of_flags.result some (sym c.read_header.ensures ∙ c.in-None.is) c.fault_of_flags.ensures

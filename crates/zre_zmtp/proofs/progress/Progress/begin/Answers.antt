@@ -32,7 +32,7 @@ returns-clause-taken g c =
     let at = head_of h o head later (sym c.read_header.ensures ∙ c.in-Some-read_header.is)
     (c.split_at.ensures.front ∙ ap (λ n. take n o) c.header_len.ensures) (c.split_at.ensures.back ∙ ap (λ n. drop n o) c.header_len.ensures) in
     let is : IsHeader h head = is_header h head at.header at.within in
-    let ok : header_fault b head ≡ None = sym c.fault_of_header.ensures ∙ c.in_default-fault_of_header.is in
+    let ok : header_fault b head ≡ None = sym (c.fault_of_whole.ensures head at.header) ∙ c.in_default-fault_of_whole.is in
     let e = c.in_ok-begin.ensures in
     let now = c.begin.new.self in
     let kept = left-frame p.expected p.greeting now.head now.body (in_frames b c.requires.traffic) ∙ ap (λ (x : List ℕ). x ++ now.body) e.head ∙ ap (λ (x : List ℕ). head ++ x) e.body in

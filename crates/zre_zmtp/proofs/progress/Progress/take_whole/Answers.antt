@@ -33,7 +33,7 @@ returns-in-Some-clause-refused g c =
     let o = c.args.octets.now in
     let at = head_of c.args.header o c.split_at.result.0.now c.split_at.result.1.now c.requires.header
     (c.split_at.ensures.front ∙ ap (λ n. take n o) c.header_len.ensures) (c.split_at.ensures.back ∙ ap (λ n. drop n o) c.header_len.ensures) in
-    let bad : header_fault b c.split_at.result.0.now ≡ Some c.in-Some.why = sym c.fault_of_header.ensures ∙ c.in-Some.is in
+    let bad : header_fault b c.split_at.result.0.now ≡ Some c.in-Some.why = sym (c.fault_of_whole.ensures c.split_at.result.0.now at.header) ∙ c.in-Some.is in
     turn_refused c.args.want.now b o c.args.out.now c.args.out.now _
     (ap (λ (x : List ℕ). fault_of c.args.want.now b x) at.whole
     ∙ fault_of-stays c.args.want.now b c.split_at.result.0.now c.split_at.result.1.now _ (header-refused c.args.want.now b c.split_at.result.0.now c.in-Some.why c.requires.frame bad)) refl
@@ -47,7 +47,7 @@ returns-in_err-take_frame-clause-refused g c =
     let head = c.of-head.result in
     let at = head_of c.args.header o head c.split_at.result.1.now c.requires.header
     (c.of-head.ensures ∙ c.split_at.ensures.front ∙ ap (λ n. take n o) c.header_len.ensures) (c.split_at.ensures.back ∙ ap (λ n. drop n o) c.header_len.ensures) in
-    let fine : header_fault b head ≡ None = ap (λ (x : List ℕ). header_fault b x) c.of-head.ensures ∙ sym c.fault_of_header.ensures ∙ c.in_default.is in
+    let fine : header_fault b head ≡ None = sym (c.fault_of_whole.ensures head at.header) ∙ c.in_default.is in
     let whole = parted o head c.split_at.result.1.now c.add.new.self _ at.whole
     (joined _ c.split_at.result.1.now c.add.new.self (copied c.add.new.self c.new-copied.result c.split_at-2.result.0.now c.in_ok-add.ensures.ok c.new-copied.ensures.empty ∙ c.split_at-2.ensures.front)) in
     rw (p.1, p.2) (refused_turn c.args.want.now out out c.take_frame.new.out (run_all c.args.want.now b o) b [] (head ++ c.add.new.self) _ o c.in_err-take_frame.field-0.0 whole
@@ -60,7 +60,7 @@ returns-clause-ok g c =
     let head = c.of-head.result in
     let at = head_of c.args.header o head c.split_at.result.1.now c.requires.header
     (c.of-head.ensures ∙ c.split_at.ensures.front ∙ ap (λ n. take n o) c.header_len.ensures) (c.split_at.ensures.back ∙ ap (λ n. drop n o) c.header_len.ensures) in
-    let fine : header_fault b head ≡ None = ap (λ (x : List ℕ). header_fault b x) c.of-head.ensures ∙ sym c.fault_of_header.ensures ∙ c.in_default.is in
+    let fine : header_fault b head ≡ None = sym (c.fault_of_whole.ensures head at.header) ∙ c.in_default.is in
     let same = copied c.add.new.self c.new-copied.result c.split_at-2.result.0.now c.in_ok-add.ensures.ok c.new-copied.ensures.empty in
     let whole = parted o head c.split_at.result.1.now c.add.new.self _ at.whole
     (joined _ c.split_at.result.1.now c.add.new.self (same ∙ c.split_at-2.ensures.front)) in
@@ -77,7 +77,7 @@ returns-then-is_content-clause-ok g c =
     let body = c.split_at-2.result.0.now in
     let at = head_of c.args.header o head c.split_at.result.1.now c.requires.header
     (c.split_at.ensures.front ∙ ap (λ n. take n o) c.header_len.ensures) (c.split_at.ensures.back ∙ ap (λ n. drop n o) c.header_len.ensures) in
-    let fine : header_fault b head ≡ None = sym c.fault_of_header.ensures ∙ c.in_default.is in
+    let fine : header_fault b head ≡ None = sym (c.fault_of_whole.ensures head at.header) ∙ c.in_default.is in
     let whole = parted o head c.split_at.result.1.now body _ at.whole (joined _ c.split_at.result.1.now body c.split_at-2.ensures.front) in
     let m : is_content b.expected c.args.header.flags ≡ true = sym c.is_content.ensures ∙ c.if-is_content.true in
     let e = c.in_ok-take_content.ensures in
