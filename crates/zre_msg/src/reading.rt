@@ -59,6 +59,7 @@ fn fault(why: BadWhy, frame: u32, place: usize) -> ReadFault
 }
 
 // What is wrong after the fields, where so many octets are left over.
+#[inline(always)]
 fn end_fault(first: &[u8], left: usize, further: &Further<'_>) -> Option<Bad>
     requires long { 3 ≤ length first.now }
     requires places { length first.now < 2 ^ 32 }
