@@ -66,7 +66,7 @@ impl View {
     fn named(&self, alloc: Global, group: &[u8]) -> Result<(Octets, Octets), OutOfMemory>
         ensures { IfOk result (λ named. (named.0 ≡ self.now.name) × (named.1 ≡ group.now)) }
     {
-        let name = Octets::copy(alloc, self.name.as_slice())?;
+        let name = self.name.try_clone()?;
         let group = Octets::copy(alloc, group)?;
         Ok((name, group))
     }
@@ -84,7 +84,7 @@ impl View {
             ≡ events.old ++ events_of id self.now (bodies.Whisper (content_of content.entry))) }
     {
         let content = content.copy(alloc)?;
-        let name = Octets::copy(alloc, self.name.as_slice())?;
+        let name = self.name.try_clone()?;
         events.push(Event::Whisper { id, name, content })
     }
 
@@ -102,7 +102,7 @@ impl View {
             ≡ events.old ++ events_of id self.now (bodies.Shout group.now (content_of content.entry))) }
     {
         let content = content.copy(alloc)?;
-        let name = Octets::copy(alloc, self.name.as_slice())?;
+        let name = self.name.try_clone()?;
         let group = Octets::copy(alloc, group)?;
         events.push(Event::Shout {
             id,

@@ -98,6 +98,7 @@ impl Groups {
     }
 
     /// Where a group stands, if it is there.
+    #[inline]
     pub fn place_of(&self, group: &[u8]) -> Option<usize>
         ensures { MatchOption result (without group.now self.now ≡ self.now)
             (λ i. (i < length self.now) × (without group.now self.now ≡ remove self.now i)) }
@@ -112,6 +113,7 @@ impl Groups {
     }
 
     /// Removes the group at a place. The others keep their order.
+    #[inline]
     pub fn remove_at(&mut self, i: usize)
         requires { i < length self.old }
         ensures { self.new ≡ remove self.old i }

@@ -96,7 +96,7 @@ pub(crate) fn push_join(
 {
     events.push(Event::Join {
         id,
-        name: Octets::copy(alloc, name.as_slice())?,
+        name: name.try_clone()?,
         group: Octets::copy(alloc, group)?,
     })
 }
@@ -114,8 +114,8 @@ pub(crate) fn tell_hello(
 {
     events.push(Event::Enter {
         id,
-        name: Octets::copy(alloc, view.name.as_slice())?,
-        endpoint: Octets::copy(alloc, view.endpoint.as_slice())?,
+        name: view.name.try_clone()?,
+        endpoint: view.endpoint.try_clone()?,
         headers: view.headers.to_pairs(alloc)?,
     })?;
     for i in 0..view.groups.len() {

@@ -9,7 +9,7 @@ use crate::causes::{Cause, CloseWhy, IgnoreWhy, RefuseWhy};
 use crate::event::Event;
 use std::alloc::Global;
 use zre_values::{
-    Octets, OutOfMemory, Pairs, PeerId, push_decimal, push_quoted, push_quoted_list,
+    Octets, OutOfMemory, Pairs, PeerId, push_decimal, push_field, push_quoted_list,
     push_quoted_pairs,
 };
 
@@ -17,18 +17,14 @@ use zre_values::{
 pub(crate) fn push_who(out: &mut Octets, id: PeerId, name: &[u8]) -> Result<(), OutOfMemory>
     ensures { OnOk result (out.new ≡ out.old ++ who_text id name.now) }
 {
-    id.push_to(out)?;
-    out.push(b' ')?;
-    push_quoted(out, name)?;
-    out.push(b' ')
+    push_field(out, &id.write_spaced(), name, b' ')
 }
 
 /// Appends a group that ends a line.
 pub(crate) fn push_group_end(out: &mut Octets, group: &[u8]) -> Result<(), OutOfMemory>
     ensures { OnOk result (out.new ≡ out.old ++ group_end group.now) }
 {
-    push_quoted(out, group)?;
-    out.push(b'\n')
+    push_field(out, &[], group, b'\n')
 }
 
 /// Appends frames of content that end a line.
@@ -47,8 +43,7 @@ pub(crate) fn push_shout_end(
 ) -> Result<(), OutOfMemory>
     ensures { OnOk result (out.new ≡ out.old ++ shout_end group.now content.now) }
 {
-    push_quoted(out, group)?;
-    out.push(b' ')?;
+    push_field(out, &[], group, b' ')?;
     push_content_end(out, content)
 }
 
@@ -63,8 +58,7 @@ fn push_head(out: &mut Octets, word: &[u8], id: PeerId, name: &Octets) -> Result
 fn push_enter_end(out: &mut Octets, endpoint: &Octets, headers: &Pairs) -> Result<(), OutOfMemory>
     ensures { OnOk result (out.new ≡ out.old ++ enter_end endpoint.now headers.now) }
 {
-    push_quoted(out, endpoint.as_slice())?;
-    out.push(b' ')?;
+    push_field(out, &[], endpoint.as_slice(), b' ')?;
     push_quoted_pairs(out, headers)?;
     out.push(b'\n')
 }
@@ -73,10 +67,7 @@ fn push_evasive(out: &mut Octets, id: PeerId, name: &Octets) -> Result<(), OutOf
     ensures { OnOk result (out.new ≡ out.old ++ line (kinds.Evasive id name.now)) }
 {
     out.append(b"EVASIVE ")?;
-    id.push_to(out)?;
-    out.push(b' ')?;
-    push_quoted(out, name.as_slice())?;
-    out.push(b'\n')
+    push_field(out, &id.write_spaced(), name.as_slice(), b'\n')
 }
 
 fn push_exit(out: &mut Octets, id: PeerId, name: &Octets, cause: Cause) -> Result<(), OutOfMemory>

@@ -143,6 +143,7 @@ impl View {
     }
 
     // A message after HELLO that lies in its frames, with the lines of its events, which begin with `heads`.
+    #[inline(always)]
     #[tactic(auto, using(crate::proofs::Named::lent_is_later))]
     fn tell_later(
         &mut self,
@@ -336,6 +337,7 @@ impl Run {
 
     /// Takes a message after HELLO that lies in its frames, and appends the lines of its events to a text; they begin
     /// with `heads`. After `OutOfMemory` a front of them may stand there.
+    #[inline(always)]
     pub(crate) fn tell(&mut self, lent: &LentMessage<'_>, heads: &Heads, out: &mut Octets) -> Answer
         // The run has taken HELLO and refused nothing, and these begin its lines.
         requires going { is_spent self.old ≡ false }

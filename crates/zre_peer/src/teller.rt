@@ -128,6 +128,7 @@ impl Teller {
     }
 
     /// Takes a message after HELLO that lies in its frames, and appends the lines of its events.
+    #[inline(always)]
     pub fn take_lent(&mut self, lent: &LentMessage<'_>, out: &mut Octets) -> Answer
         // HELLO was taken, and nothing refused.
         requires going { is_spent self.old ≡ false }

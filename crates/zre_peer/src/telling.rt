@@ -12,30 +12,35 @@ ghost use Rattle.zre_peer.specs.Views.{is_small};
 ghost use Rattle.zre_values.specs.declared.peer_id.PeerId.{PeerId};
 
 use crate::heads::Heads;
-use crate::line::{push_content_end, push_group_end};
+use crate::line::push_content_end;
 use crate::peer_run::Answer;
 use crate::view::View;
 use std::alloc::Global;
 use zre_msg::{LentBody, LentContent, LentMessage};
-use zre_values::{Octets, OutOfMemory, push_quoted};
+use zre_values::{Octets, OutOfMemory, push_field};
 
-// Appends frames of content that end a line.
-fn push_lent_end(out: &mut Octets, content: LentContent<'_>) -> Result<(), OutOfMemory>
-    ensures { OnOk result (out.new ≡ out.old ++ content_end (content_of content.entry)) }
+// Appends some octets as they are, and frames of content that end a line.
+fn push_lent_end(
+    out: &mut Octets,
+    before: &[u8],
+    content: LentContent<'_>,
+) -> Result<(), OutOfMemory>
+    ensures { OnOk result (out.new ≡ out.old ++ before.now ++ content_end (content_of content.entry)) }
 {
-    match content {
-        LentContent::One(Some(frame)) => push_group_end(out, frame),
-        LentContent::One(None) => push_content_end(out, &[]),
-        LentContent::Frames(frames) => push_content_end(out, frames),
-    }
+    let frames = match content {
+        LentContent::One(Some(frame)) => return push_field(out, before, frame, b'\n'),
+        LentContent::One(None) => &[],
+        LentContent::Frames(frames) => frames,
+    };
+    out.append(before)?;
+    push_content_end(out, frames)
 }
 
 // The beginning of a line, and a group.
 fn push_group(out: &mut Octets, head: &Octets, group: &[u8]) -> Result<(), OutOfMemory>
     ensures { OnOk result (out.new ≡ out.old ++ head.now ++ group_end group.now) }
 {
-    out.append(head.as_slice())?;
-    push_group_end(out, group)
+    push_field(out, head.as_slice(), group, b'\n')
 }
 
 fn push_whisper(
@@ -46,8 +51,7 @@ fn push_whisper(
     ensures { (id : PeerId) (view : View) → heads.now ≡ heads_of id view.name →
         OnOk result (out.new ≡ out.old ++ lines (events_of id view (bodies.Whisper (content_of content.entry)))) }
 {
-    out.append(heads.whisper.as_slice())?;
-    push_lent_end(out, content)
+    push_lent_end(out, heads.whisper.as_slice(), content)
 }
 
 fn push_shout(
@@ -60,15 +64,14 @@ fn push_shout(
         OnOk result (out.new
         ≡ out.old ++ lines (events_of id view (bodies.Shout group.now (content_of content.entry)))) }
 {
-    out.append(heads.shout.as_slice())?;
-    push_quoted(out, group)?;
-    out.push(b' ')?;
-    push_lent_end(out, content)
+    push_field(out, heads.shout.as_slice(), group, b' ')?;
+    push_lent_end(out, &[], content)
 }
 
 impl View {
     /// Takes a message that is no HELLO: changes the view, and appends the lines of its events, which begin with
     /// `heads`. After an error the view is as it was.
+    #[inline(always)]
     pub(crate) fn tell_change(
         &mut self,
         alloc: Global,

@@ -1,10 +1,10 @@
-ghost use Rattle.std.specs.Prelude.{◌≡◌, ◌<◌, length, slice_get, Some};
+ghost use Rattle.std.specs.Prelude.{◌≡◌, ◌<◌, length, slice_get, Some, IfOk};
 ghost use Rattle.std.specs.List.{list_any};
 ghost use Rattle.std.specs.Str.{bytes_eq};
 
 use crate::groups::Groups;
 use crate::headers::Headers;
-use zre_values::{Octets, take_apart};
+use zre_values::{Octets, OutOfMemory, take_apart};
 
 /// What a peer has told of itself by its HELLO and the messages after it.
 #[derive(Debug)]
@@ -33,6 +33,14 @@ impl View {
         ensures { result.now ≡ self.now.name }
     {
         self.name.as_slice()
+    }
+
+    /// A copy of its name.
+    #[inline(always)]
+    pub fn copy_name(&self) -> Result<Octets, OutOfMemory>
+        ensures { IfOk result (λ name. name ≡ self.now.name) }
+    {
+        self.name.try_clone()
     }
 
     /// Where its mailbox is, as its HELLO says it.

@@ -28,7 +28,7 @@ pub fn name_of(alloc: Global, run: &Run) -> Result<Octets, OutOfMemory>
     ensures { (ms : List Message) → view_in run.now ≡ shown ms → IfOk result (λ name. name ≡ (view_of ms).name) }
 {
     match run.view() {
-        Some(view) => Octets::copy(alloc, view.name()),
+        Some(view) => view.copy_name(),
         None => Ok(Octets::new(alloc)),
     }
 }
