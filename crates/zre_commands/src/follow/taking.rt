@@ -1,6 +1,6 @@
 //! Takes the messages of items.
 
-ghost use Rattle.std.specs.Prelude.{◌≡◌, ◌∷◌, [], ℕ, List, false, IfOk, OnOk};
+ghost use Rattle.std.specs.Prelude.{◌≡◌, ◌∷◌, [], ℕ, List, Err, false, IfOk, OnOk, option_copied, option_to_list};
 ghost use Rattle.zre_msg.specs.declared.message.Message.{Message};
 ghost use Rattle.zre_peer.specs.Standing.{Stands, Handed, id_of, is_spent};
 ghost use Rattle.zre_peer.specs.declared.peer_run.Run.{Run};
@@ -15,8 +15,25 @@ use zre_peer::{RunFault, Teller};
 use zre_values::{Frames, Octets, OutOfMemory};
 use zre_zmtp::{Front, Item, What};
 
+// A message is refused: the line of the run's end is appended.
+#[cold]
+#[inline(never)]
+fn end(alloc: Global, fault: RunFault, run: &Teller, out: &mut Octets) -> Result<bool, OutOfMemory>
+    ensures { (was : Run) (m : Message) (before : List ℕ) → Handed (Err fault) was run.now m before out.old →
+        Takes result was run.now (m ∷ []) before out.new }
+{
+    match fault {
+        RunFault::OutOfMemory => Err(OutOfMemory),
+        _ => {
+            push_end(alloc, run.run(), fault, out)?;
+            Ok(false)
+        }
+    }
+}
+
 // What comes of a message that the run was handed: where the message is refused, the line of the run's end is appended.
 // Says whether the run goes on.
+#[inline(always)]
 fn go_on(
     alloc: Global,
     taken: Result<(), RunFault>,
@@ -28,11 +45,7 @@ fn go_on(
 {
     match taken {
         Ok(()) => Ok(true),
-        Err(RunFault::OutOfMemory) => Err(OutOfMemory),
-        Err(fault) => {
-            push_end(alloc, run.run(), fault, out)?;
-            Ok(false)
-        }
+        Err(fault) => end(alloc, fault, run, out),
     }
 }
 
@@ -61,6 +74,7 @@ fn take_whole(
 
 // Takes the message that the frames mean, if they mean one. After HELLO it is read where it lies; only a further
 // HELLO is made.
+#[inline(never)]
 fn take_frames(
     alloc: Global,
     frames: &Frames,
@@ -85,11 +99,11 @@ fn take_frames(
 }
 
 // The frames of a message, in memory of their own.
-fn copied(alloc: Global, front: &Front<'_>) -> Result<Frames, OutOfMemory>
-    ensures { IfOk result (λ frames. frames ≡ bodies_of front.now) }
+fn copied(alloc: Global, first: &[u8], second: Option<&[u8]>) -> Result<Frames, OutOfMemory>
+    ensures { IfOk result (λ frames. frames ≡ first.now ∷ option_to_list (option_copied second.entry)) }
 {
-    let mut frames = Frames::of(alloc, Octets::copy(alloc, front.first)?);
-    if let Some(second) = front.second {
+    let mut frames = Frames::of(alloc, Octets::copy(alloc, first)?);
+    if let Some(second) = second {
         frames.push(Octets::copy(alloc, second)?)?;
     }
     Ok(frames)
@@ -100,20 +114,23 @@ fn copied(alloc: Global, front: &Front<'_>) -> Result<Frames, OutOfMemory>
 #[inline(never)]
 fn take_copied(
     alloc: Global,
-    front: &Front<'_>,
+    first: &[u8],
+    second: Option<&[u8]>,
     run: &mut Teller,
     out: &mut Octets,
 ) -> Result<bool, OutOfMemory>
     requires { is_spent run.old ≡ false }
-    ensures { Takes result run.old run.new (meant_by (bodies_of front.now)) out.old out.new }
+    ensures { Takes result run.old run.new (meant_by (first.now ∷ option_to_list (option_copied second.entry))) out.old
+        out.new }
 {
-    match copied(alloc, front) {
+    match copied(alloc, first, second) {
         Ok(frames) => take_whole(alloc, &frames, run, out),
         Err(OutOfMemory) => Err(OutOfMemory),
     }
 }
 
 /// Takes the message of one or two frames, if they mean one. Says whether the run goes on.
+#[inline(always)]
 pub(crate) fn take_front(
     alloc: Global,
     front: &Front<'_>,
@@ -123,18 +140,18 @@ pub(crate) fn take_front(
     requires { is_spent run.old ≡ false }
     ensures { Takes result run.old run.new (meant_by (bodies_of front.now)) out.old out.new }
 {
-    if !run.is_after() {
-        return take_copied(alloc, front, run, out);
-    }
-    match Message::see_in(front.first, front.second) {
-        Ok(Some(lent)) => {
-            let taken = run.take_lent(&lent, out);
-            go_on(alloc, taken, run, out)
+    if run.is_after() {
+        match Message::see_in(front.first, front.second) {
+            Ok(Some(lent)) => {
+                let taken = run.take_lent(&lent, out);
+                return go_on(alloc, taken, run, out);
+            }
+            Ok(None) => {}
+            Err(ReadFault::Bad(_)) => return Ok(true),
+            Err(ReadFault::OutOfMemory) => return Err(OutOfMemory),
         }
-        Ok(None) => take_copied(alloc, front, run, out),
-        Err(ReadFault::Bad(_)) => Ok(true),
-        Err(ReadFault::OutOfMemory) => Err(OutOfMemory),
     }
+    take_copied(alloc, front.first, front.second, run, out)
 }
 
 // Takes the message that an item means, if it means one. Says whether the run goes on.
