@@ -130,6 +130,21 @@ impl EventLines {
             self.next = place.saturating_add(1);
             return Ok(());
         }
+        self.tell_anew(id, name, event, out)
+    }
+
+    // EVASIVE of a peer whose line isn't kept as the one that comes: it is made, and kept.
+    #[inline(never)]
+    fn tell_anew(
+        &mut self,
+        id: PeerId,
+        name: &Octets,
+        event: &Event,
+        out: &mut Octets,
+    ) -> Result<(), OutOfMemory>
+        requires { event.now ≡ Evasive id name.now }
+        ensures { OnOk result (out.new ≡ out.old ++ line event.now) }
+    {
         let line = line_of(self.alloc, id, name, event)?;
         out.append(line.line.as_slice())?;
         self.keep(line)
