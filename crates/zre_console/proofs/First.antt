@@ -79,10 +79,6 @@ pub fault_yields : (T : Type 0) (failed : Status) (f : NextFault) (now before : 
 fault_yields T failed fault.Failed now before is = inr (below_self (rank failed))
 fault_yields T failed fault.OutOfMemory now before is = inl is
 
--- a thread was refused before anything was written, and the recorder and the world came back as they were
-pub refused_first : (writes records worlds starts : Type 0) → writes → records → worlds → IsFirst NoThread writes records worlds starts
-refused_first writes records worlds starts wrote kept gave = record { written = inl wrote; recorded = inl kept; given = inl gave; started = inr (below_self 7) }
-
 -- all of it
 pub first_of_all : (read : Status) (broke : Option NextFault) (how : Ending) (refused : Bool) (status : Status)
     (writes : Type 0) (records records' worlds worlds' : Option ℕ) (starts : Type 0)
