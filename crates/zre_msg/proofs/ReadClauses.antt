@@ -9,7 +9,7 @@ use Rattle.zre_msg.specs.declared.message.Message.{Message}
 use Rattle.zre_msg.specs.declared.message.ReadFault.{ReadFault}
 use Rattle.zre_msg.specs.Spelling.{Means}
 use Rattle.zre_msg.specs.Reading.{Answers, command_of, read_frames, read_of}
-use Rattle.zre_msg.proofs.Meaning.{read-means}
+use Rattle.zre_msg.proofs.MeansIsRead.{read-means}
 use Rattle.zre_msg.proofs.ReadIsSpelled.{IsBytes, read-takes}
 
 -- a message that was read is spelled by the frames

@@ -18,7 +18,7 @@ pub fn write_gathered<O: Sink>(gathered: &mut Octets, out: &mut O) -> Result<(),
     ensures written { OnOk result (Appends (O.written out.old) (O.written out.new) gathered.old) }
     ensures empty { OnOk result (gathered.new ≡ []) }
     // A sink that fails.
-    ensures stays { OnErr result (gathered.new ≡ gathered.old) }
+    ensures unchanged { OnErr result (gathered.new ≡ gathered.old) }
     ensures front { AppendsFront (O.written out.old) (O.written out.new) gathered.old }
     // Which counts of faults rise.
     ensures later { O.faults out.old ≤ O.faults out.new }
@@ -37,7 +37,7 @@ pub fn write_much<O: Sink>(gathered: &mut Octets, out: &mut O) -> Result<(), Nex
     ensures through { OnOk result
         (WritesThrough gathered.old gathered.new (O.written out.old) (O.written out.new) []) }
     // A sink that fails.
-    ensures stays { OnErr result (gathered.new ≡ gathered.old) }
+    ensures unchanged { OnErr result (gathered.new ≡ gathered.old) }
     ensures front { OnErr result (AppendsFront (O.written out.old) (O.written out.new) gathered.old) }
     // Which counts of faults rise.
     ensures later { O.faults out.old ≤ O.faults out.new }

@@ -107,7 +107,7 @@ impl Desk for MemDesk {
         ensures calls { (self.new.nexts ≡ called self.old.nexts) × (self.new.begins ≡ self.old.begins) }
         // The client.
         ensures first { IfOk result (λ c. self.old.queue.left ≡ c ∷ self.new.queue.left) }
-        ensures kept { OnErr result (self.new.queue.left ≡ self.old.queue.left) }
+        ensures unchanged { OnErr result (self.new.queue.left ≡ self.old.queue.left) }
     {
         if self.nexts.next_fails() {
             self.faults = self.faults.saturating_add(1);

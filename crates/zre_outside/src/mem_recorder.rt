@@ -83,7 +83,7 @@ impl Recorder for MemRecorder {
     fn begin(&mut self, name: &str) -> Result<(), NextFault>
         // What is begun.
         ensures begun { self.new.capture.begun ≡ is_ok result }
-        ensures kept { OnOk result (Some self.new.capture.kept ≡ option_map (λ _. []) (Some self.old.capture.kept)) }
+        ensures recorded { OnOk result (Some self.new.capture.kept ≡ option_map (λ _. []) (Some self.old.capture.kept)) }
         ensures named { OnOk result (Some self.new.capture.named
             ≡ option_map (λ _. name.now) (Some self.old.capture.named)) }
         // A recorder that fails.
@@ -114,7 +114,7 @@ impl Recorder for MemRecorder {
     fn put(&mut self, bytes: &[u8]) -> Result<(), NextFault>
         requires { self.old.capture.begun ≡ true }
         // What is kept.
-        ensures kept { OnOk result (Appends (Some self.old.capture.kept) (Some self.new.capture.kept) bytes.now) }
+        ensures recorded { OnOk result (Appends (Some self.old.capture.kept) (Some self.new.capture.kept) bytes.now) }
         ensures front { AppendsFront (Some self.old.capture.kept) (Some self.new.capture.kept) bytes.now }
         // What stays as it was.
         ensures named { Keeps (Some self.old.capture.named) (Some self.new.capture.named) }

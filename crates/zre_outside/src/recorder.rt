@@ -28,7 +28,7 @@ pub trait Recorder {
     fn begin(&mut self, name: &str) -> Result<(), NextFault>
         // What is begun.
         ensures begun { begun self.new ≡ is_ok result }
-        ensures kept { OnOk result (kept self.new ≡ option_map (λ _. []) (kept self.old)) }
+        ensures recorded { OnOk result (kept self.new ≡ option_map (λ _. []) (kept self.old)) }
         ensures name { OnOk result (named self.new ≡ option_map (λ _. name.now) (named self.old)) }
         // A recorder that fails.
         ensures refused { OnErr result (Keeps (kept self.old) (kept self.new)
@@ -41,7 +41,7 @@ pub trait Recorder {
     fn put(&mut self, bytes: &[u8]) -> Result<(), NextFault>
         requires { begun self.old ≡ true }
         // What is kept.
-        ensures kept { OnOk result (Appends (kept self.old) (kept self.new) bytes.now) }
+        ensures recorded { OnOk result (Appends (kept self.old) (kept self.new) bytes.now) }
         ensures front { AppendsFront (kept self.old) (kept self.new) bytes.now }
         // What stays as it was.
         ensures name { Keeps (named self.old) (named self.new) }

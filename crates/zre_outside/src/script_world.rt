@@ -121,7 +121,7 @@ impl World for ScriptWorld {
         ensures counted { self.new.faults ≡ counted (is_failed result) self.old.faults }
         // What stays as it was.
         ensures row { IfOk result (λ t. self.new.row ≡ row_later self.old.row t) }
-        ensures kept { OnErr result (self.new.row ≡ self.old.row) }
+        ensures unchanged { OnErr result (self.new.row ≡ self.old.row) }
         // The calls that it lists.
         ensures listed { is_failed result ≡ next_is_listed self.old.nexts
             || (at_look self.old.scene.left command && nat_le 50000000 self.old.row) }

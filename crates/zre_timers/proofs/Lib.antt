@@ -1,3 +1,3 @@
-pub mod Map
-pub mod Pairs
-pub mod Rising
+pub mod EntriesAsMap
+pub mod PairsInBothSets
+pub mod RisingPairs

@@ -18,8 +18,8 @@ abbrev pub NoneAfter : ℕ → Moments → Type 0
 NoneAfter now moments = (key : ℕ) → IfSome (moment_of moments key) (λ at. at ≤ now)
 
 -- the key has a moment, and by now it lies at least so long back
-abbrev pub has_rested : Moments → ℕ → ℕ → ℕ → Bool
-has_rested moments now span key = option_map_or (λ at. nat_le span (now - at)) (moment_of moments key) false
+abbrev pub is_silent_for : Moments → ℕ → ℕ → ℕ → Bool
+is_silent_for moments now span key = option_map_or (λ at. nat_le span (now - at)) (moment_of moments key) false
 
 -- the key has a moment, and it is in this range
 abbrev pub has_moment_between : Moments → ℕ → ℕ → ℕ → Bool

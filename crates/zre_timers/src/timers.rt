@@ -1,6 +1,6 @@
 ghost use Rattle.std.specs.Prelude.{◌≡◌, ◌≤◌, not, ◌&&◌, IfOk, OnOk, OnErr};
 ghost use Rattle.std.specs.FinMap as map;
-ghost use Rattle.zre_timers.specs.Moments.{NoneAfter, has_rested, has_moment_between, moment_of};
+ghost use Rattle.zre_timers.specs.Moments.{NoneAfter, is_silent_for, has_moment_between, moment_of};
 ghost use Rattle.zre_values.specs.Keys.{IsRisingListOf};
 
 use std::alloc::Global;
@@ -95,9 +95,9 @@ impl Timers {
         requires order { evasive ≤ expired }
         requires past { NoneAfter now self.now }
         // The keys that are due.
-        ensures expired { IfOk result (λ due. IsRisingListOf (has_rested self.now now expired) due.expired) }
+        ensures expired { IfOk result (λ due. IsRisingListOf (is_silent_for self.now now expired) due.expired) }
         ensures evasive { IfOk result (λ due. IsRisingListOf
-            (λ key. has_rested self.now now evasive key && not (has_rested self.now now expired key)) due.evasive) }
+            (λ key. is_silent_for self.now now evasive key && not (is_silent_for self.now now expired key)) due.evasive) }
     {
         let Some(latest) = now.checked_sub(evasive) else {
             return Ok(Due {

@@ -1,11 +1,11 @@
 pub mod Addresses
-pub mod Answered
+pub mod AnswersThatAreOk
 pub mod Digits
 pub mod Endpoints
 pub mod IdTexts
-pub mod Numbers
-pub mod Orders
-pub mod Plain
+pub mod DecimalNumbers
+pub mod OrdersOfPairs
+pub mod PlainOctets
 pub mod PlainIds
-pub mod Quotes
-pub mod Splits
+pub mod QuotedTexts
+pub mod FirstPlaces

@@ -44,7 +44,7 @@ impl<const N: usize> FewOctets<N> {
         few
     }
 
-    /// The same octets once more. The whole value is copied, so their number doesn't matter.
+    /// A copy of the octets. The whole value is copied, so their number doesn't matter.
     #[inline(always)]
     pub fn twin(&self) -> Self
         ensures { result ≡ self.now }

@@ -221,7 +221,7 @@ impl Octets {
         }
     }
 
-    // The same, to a list that lies in the value. The whole list goes into memory of its own.
+    // Appends a field to a list that lies in the value. The whole list goes into memory of its own.
     #[cold]
     #[inline(never)]
     fn spill_field(&mut self, before: &[u8], field: &[u8], after: u8) -> Result<(), OutOfMemory>

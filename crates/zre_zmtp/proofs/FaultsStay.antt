@@ -11,7 +11,7 @@ use Rattle.zre_zmtp.specs.declared.fault.ZmtpFault.{ZmtpFault}
 use Rattle.zre_zmtp.specs.declared.expected.Expected.{Expected}
 use Rattle.zre_zmtp.specs.declared.expected.Expected.TheVariants as expect
 use Rattle.zre_zmtp.specs.Stream.{Want, Before, once, flags_fault, size_fault, body_fault, frame_why, frame_fault, fault_of, fault_at, greeting_fault, whole_len, part_len}
-use Rattle.zre_zmtp.proofs.KnownStays.{flags-more, headed, has_header-from, Headed-more, size-more, frame_len-more, IsWhole, whole, is_whole-from, IsWhole-more, body-more}
+use Rattle.zre_zmtp.proofs.KnownHeadersStay.{flags-more, headed, has_header-from, Headed-more, size-more, frame_len-more, IsWhole, whole, is_whole-from, IsWhole-more, body-more}
 
 -- ---- one test, and those after it
 

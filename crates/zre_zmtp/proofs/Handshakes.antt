@@ -21,9 +21,9 @@ use Rattle.zre_zmtp.specs.Written.{own_greeting, ready_body, ready_frame, socket
 use Rattle.zre_zmtp.specs.Laws.{IsWanted, handshake, greeting_item, ReadsHandshake}
 use Rattle.zre_zmtp.proofs.FaultsStay.{part_len-stays}
 use Rattle.zre_zmtp.proofs.WholeFrames.{run_all-some}
-use Rattle.zre_zmtp.proofs.Framed.{is_framed, IsFramed}
-use Rattle.zre_zmtp.proofs.Turning.{turn_whole, no_octets}
-use Rattle.zre_zmtp.proofs.Feeding.{Follows, follows, fault-follows}
+use Rattle.zre_zmtp.proofs.FrameFaults.{is_framed, IsFramed}
+use Rattle.zre_zmtp.proofs.TurnsOfReaders.{turn_whole, no_octets}
+use Rattle.zre_zmtp.proofs.ReadersFollowStreams.{Follows, follows, fault-follows}
 
 -- ---- the greeting
 

@@ -8,7 +8,7 @@ use Rattle.zre_zmtp.specs.Frame.{flags, header_len, has_header, size, frame_len,
 use Rattle.zre_zmtp.specs.declared.fault.ZmtpWhy.{ZmtpWhy}
 use Rattle.zre_zmtp.specs.declared.fault.ZmtpFault.{ZmtpFault}
 use Rattle.zre_zmtp.specs.Stream.{Want, Before, once, flags_fault, size_fault, body_fault, frame_why, greeting_fault}
-use Rattle.zre_zmtp.proofs.KnownStays.{flags-more, Headed, has_header-from, Headed-more, size-more, header_len-more, frame_len-more, IsWhole, is_whole-from}
+use Rattle.zre_zmtp.proofs.KnownHeadersStay.{flags-more, Headed, has_header-from, Headed-more, size-more, header_len-more, frame_len-more, IsWhole, is_whole-from}
 
 -- the header is there, and has no fault
 pub record HeadFine (b : Before) (o : List ℕ) : Type 0 where

@@ -5,8 +5,8 @@ use Rattle.zre_zmtp.specs.Frame.{flags, header_len, size, frame_len, is_long}
 use Rattle.zre_zmtp.specs.declared.fault.ZmtpFault.{ZmtpFault}
 use Rattle.zre_zmtp.specs.Stream.{Want, Before, item, part_len, whole_len, fault_of}
 use Rattle.zre_zmtp.specs.Run.{after, with_item, run, run_all}
-use Rattle.zre_zmtp.proofs.KnownStays.{Headed, IsWhole, size-more, flags-more}
-use Rattle.zre_zmtp.proofs.Cuts.{cases_Option, run-none, run-some, shorter, not_empty}
+use Rattle.zre_zmtp.proofs.KnownHeadersStay.{Headed, IsWhole, size-more, flags-more}
+use Rattle.zre_zmtp.proofs.OctetsCutIntoParts.{cases_Option, run-none, run-some, shorter, not_empty}
 
 -- the octets are one whole frame
 pub record IsFrame (o : List ℕ) : Type 0 where

@@ -60,7 +60,7 @@ Brings c was now o =
     Advances want (before_of was) (left_of was ++ o) out (out ++ given c was.start now.place)
     (before_of now) (left_of now)
 
--- The same, or nothing changed.
+-- The reader took the octets o, which brought this, or it changed nothing and left them to its slower way.
 abbrev pub TakesPiece : Came → Progress → Progress → List ℕ → Type 0
 TakesPiece (came.Message l) was now o = Brings (came.Message l) was now o
 TakesPiece came.Part was now o = Brings came.Part was now o
@@ -72,7 +72,7 @@ BringsOn c was now o =
     (want : Want) (kind : Kind) (before : List ℕ) → Reads want kind before was →
     Reads want kind (before ++ o) now × Adds want kind before o [] (given c was.before.start now.before.place)
 
--- The same, or nothing changed.
+-- The reader took the octets o after whatever it had, or it changed nothing and left them to its slower way.
 abbrev pub TakesOn : Came → Reading → Reading → List ℕ → Type 0
 TakesOn (came.Message l) was now o = BringsOn (came.Message l) was now o
 TakesOn came.Part was now o = BringsOn came.Part was now o

@@ -6,11 +6,11 @@ use Rattle.std.specs.Prelude.{◌≡◌, ℕ, ◌+◌, ◌*◌, ◌<◌, ◌≤�
 abbrev pub IsPaid : ℕ → ℕ → ℕ → ℕ → ℕ → Type 0
 IsPaid looks looks' kept kept' n = looks' + 3 * kept' ≤ looks + 3 * kept + 4 * n
 
--- The same where they were refused: nothing is said of what is kept then.
+-- The bound on looks where the octets were refused: nothing is said of what is kept then.
 abbrev pub IsPaidOnRefusal : ℕ → ℕ → ℕ → ℕ → Type 0
 IsPaidOnRefusal looks looks' kept n = looks' ≤ looks + 3 * kept + 4 * n
 
--- The one or the other, by what was answered.
+-- The bound on looks by what the call answered: `IsPaid` where it took the octets, `IsPaidOnRefusal` where not.
 abbrev pub Looks : {A E : Type 0} → ℕ → ℕ → ℕ → ℕ → ℕ → Result A E → Type 0
 Looks looks looks' kept kept' n result =
     OnOk result (IsPaid looks looks' kept kept' n) × OnErr result (IsPaidOnRefusal looks looks' kept n)

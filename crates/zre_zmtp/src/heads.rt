@@ -21,7 +21,7 @@ impl Progress {
         requires between { IsBetweenFrames self.old }
         requires short { header_of piece.now ≡ None }
         ensures taken { TakesPiece result self.old self.new piece.now }
-        ensures kept { held self.new ≤ held self.old + length piece.now }
+        ensures held { held self.new ≤ held self.old + length piece.now }
     {
         if let Some(_) = fault_of_header(self, piece) {
             return Came::Other;

@@ -62,7 +62,7 @@ impl Opened {
         Ok(())
     }
 
-    /// The same with a copy of these octets, which is a look at each of them.
+    /// Appends a copy of these octets as the body of one frame more, which is a look at each of them, or nothing.
     pub fn push_copy<L: Ledger>(
         &mut self,
         alloc: Global,
@@ -76,7 +76,7 @@ impl Opened {
         self.push(steps.copy(alloc, body)?)
     }
 
-    /// The same with what stands in a place, which has nothing any more.
+    /// Appends what stands in a place as the body of one frame more, or nothing. The place is empty after it.
     #[inline]
     pub fn push_from(&mut self, alloc: Global, place: &mut Octets) -> Result<(), OutOfMemory>
         ensures ok { OnOk result (self.new ≡ self.old ++ place.old ∷ []) }

@@ -173,7 +173,7 @@ impl Reader {
     pub fn pass<'a>(&mut self, octets: &'a [u8]) -> Option<Front<'a>>
         ensures passed { IfSome result (λ front. PassesOn self.old self.new front octets.now) }
         ensures none { result ≡ None → self.new ≡ self.old }
-        ensures kept { IfSome result (λ front. (kept self.old ≡ 0) × (kept self.new ≡ 0)) }
+        ensures holds_nothing { IfSome result (λ front. (kept self.old ≡ 0) × (kept self.new ≡ 0)) }
     {
         if self.spent || !self.progress.at_rest() {
             return None;
@@ -218,7 +218,7 @@ impl Reader {
         ensures passed { IfSome result (λ front. PassesOn self.old self.new front piece.now) }
         ensures all { IfSome result (λ front. front.len ≡ length piece.now) }
         ensures none { result ≡ None → self.new ≡ self.old }
-        ensures kept { IfSome result (λ front. (kept self.old ≡ 0) × (kept self.new ≡ 0)) }
+        ensures holds_nothing { IfSome result (λ front. (kept self.old ≡ 0) × (kept self.new ≡ 0)) }
     {
         if !self.progress.at_rest() {
             return None;

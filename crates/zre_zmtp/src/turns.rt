@@ -115,7 +115,7 @@ impl Progress {
     }
 
     // The item that ends with a whole frame, and what is known after it. A place past the last one is OutOfMemory.
-    fn finish_frame(
+    fn finish_owned_frame(
         &mut self,
         want: &Want,
         header: Header,
@@ -190,9 +190,9 @@ impl Progress {
             IfErr result (λ e.
             RefusesAt e want.now (before_of self.old) (frame.head ++ frame.body) out.old out.new) }
         // How many octets are kept.
-        ensures kept { OnOk result (held self.new
+        ensures held { OnOk result (held self.new
             ≤ sum_by length self.old.opened + (length frame.head + length frame.body)) }
-        ensures kept_whole { length frame.body ≡ frame.header.size →
+        ensures held_whole { length frame.body ≡ frame.header.size →
             OnOk result (held self.new ≤ sum_by length self.old.opened + length frame.body) }
     {
         let HeadedFrame { header, head, body } = frame;
@@ -201,7 +201,7 @@ impl Progress {
             self.partial = Partial { head, header, body };
             return Ok(());
         }
-        if let Some(item) = self.finish_frame(want, header, head.len(), body.finish())? {
+        if let Some(item) = self.finish_owned_frame(want, header, head.len(), body.finish())? {
             out.push(item)?;
         }
         Ok(())
@@ -222,7 +222,7 @@ impl Progress {
         ensures refused { IfErr result (λ e.
             RefusesAt e want.now (before_of self.old) head out.old out.new) }
         // How many octets are kept.
-        ensures kept { OnOk result (held self.new ≤ sum_by length self.old.opened + length head) }
+        ensures held { OnOk result (held self.new ≤ sum_by length self.old.opened + length head) }
     {
         let body = Store::new(self.alloc);
         let Some(header) = read_header(head.as_slice()) else {
@@ -243,7 +243,7 @@ impl Progress {
         // What a refusal tells, and what it leaves.
         ensures refused { NamesFault result want.now self.old (octet ∷ []) out.old out.new }
         // How many octets are kept.
-        ensures kept { OnOk result (held self.new ≤ held self.old + 1) }
+        ensures held { OnOk result (held self.new ≤ held self.old + 1) }
     {
         let none = Partial::new(self.alloc);
         let Partial { mut head, .. } = mem::replace(&mut self.partial, none);
@@ -300,7 +300,7 @@ impl Progress {
 
     // The last frame of a message. Most messages have no other, and then its body is copied to where the item lies. The
     // copy is a look at each octet.
-    fn end_message<L: Ledger>(
+    fn push_whole_message<L: Ledger>(
         &mut self,
         end: u64,
         body: &[u8],
@@ -327,7 +327,7 @@ impl Progress {
     }
 
     // A whole frame of a message after READY. Its body is copied once.
-    fn take_content<L: Ledger>(
+    fn finish_lent_content<L: Ledger>(
         &mut self,
         header: Header,
         header_len: usize,
@@ -356,7 +356,7 @@ impl Progress {
             self.place = end;
             return Ok(());
         }
-        self.end_message(end, body, out, steps)?;
+        self.push_whole_message(end, body, out, steps)?;
         self.place = end;
         self.start = end;
         Ok(())
@@ -380,7 +380,7 @@ impl Progress {
             RefusesAt e want.now (before_of self.old) octets.now out.old out.new) }
         // How many octets are taken and kept.
         ensures within { IfOk result (λ len. header.size < len × len ≤ length octets.now) }
-        ensures kept { OnOk result (held self.new ≤ held self.old + header.size) }
+        ensures held { OnOk result (held self.new ≤ held self.old + header.size) }
         ensures looks { OnOk result (steps.new ≡ steps.old + header.size) }
         ensures looks_most { steps.new ≤ steps.old + header.size }
     {
@@ -392,7 +392,7 @@ impl Progress {
         let (body, _) = later.split_at(header.size as usize);
         let len = head.len() + body.len();
         if self.is_content(header) {
-            self.take_content(header, head.len(), body, out, steps)?;
+            self.finish_lent_content(header, head.len(), body, out, steps)?;
             return Ok(len);
         }
         let head = Head::of(head);

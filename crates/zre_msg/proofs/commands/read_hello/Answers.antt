@@ -1,6 +1,6 @@
 use Rattle.std.proofs.Common.{ap, ◌∙◌}
 use Rattle.zre_msg.specs.Reading.{◌>>=◌, hello_at, named_at}
-use Rattle.zre_msg.proofs.Named.{whole, hello_is, ends_so}
+use Rattle.zre_msg.proofs.HelloFieldsByName.{whole, hello_is, ends_so}
 use Rattle.zre_msg.proofs.commands.read_hello.Goals as goal
 
 pub returns-in-Ok-named_at : goal.returns-in-Ok-named_at

@@ -1,4 +1,4 @@
-use Rattle.zre_msg.proofs.Meaning.{read-means}
+use Rattle.zre_msg.proofs.MeansIsRead.{read-means}
 use Rattle.zre_msg.proofs.ReadClauses.{read-meant}
 use Rattle.zre_msg.proofs.laws.frames_are_read_as_they_mean.Goals as goal
 

@@ -1,4 +1,4 @@
-use Rattle.zre_msg.proofs.Meaning.{Means-good, Means-one}
+use Rattle.zre_msg.proofs.MeansIsRead.{Means-good, Means-one}
 use Rattle.zre_msg.proofs.laws.frames_mean_one_message.Goals as goal
 
 pub returns-clause-good : goal.returns-clause-good

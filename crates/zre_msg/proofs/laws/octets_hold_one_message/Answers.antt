@@ -1,4 +1,4 @@
-use Rattle.zre_msg.proofs.Unique.{octets-one}
+use Rattle.zre_msg.proofs.SpellingIsUnique.{octets-one}
 use Rattle.zre_msg.proofs.laws.octets_hold_one_message.Goals as goal
 
 pub returns : goal.returns

@@ -1,5 +1,5 @@
 use Rattle.zre_msg.specs.Spelling.{spell}
-use Rattle.zre_msg.proofs.Meaning.{read-means}
+use Rattle.zre_msg.proofs.MeansIsRead.{read-means}
 use Rattle.zre_msg.proofs.laws.spelled_is_read.Goals as goal
 
 pub returns : goal.returns

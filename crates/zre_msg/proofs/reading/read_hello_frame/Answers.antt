@@ -1,7 +1,7 @@
 use Rattle.std.proofs.Common.{sym, ap, ◌∙◌}
 use Rattle.zre_msg.specs.Further.{frames_of}
 use Rattle.zre_msg.specs.Reading.{hello_at, read_of}
-use Rattle.zre_msg.proofs.Hello.{is_short, is_bad, is_message, answered, ends_short}
+use Rattle.zre_msg.proofs.HelloFrames.{is_short, is_bad, is_message, answered, ends_short}
 use Rattle.zre_msg.proofs.reading.read_hello_frame.Goals as goal
 
 pub returns-in-Err-Short : goal.returns-in-Err-Short

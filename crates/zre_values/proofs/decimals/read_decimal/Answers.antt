@@ -1,7 +1,7 @@
 use Rattle.std.proofs.Common.{◌≡◌, ◌∙◌, ◌==◌, ℕ, true, false, length, Some, sym, ap, arith}
 use Rattle.std.specs.Char.{is_ascii_digit}
 use Rattle.std.proofs.lemmas.Bool.{eqb-true, eq-eqb}
-use Rattle.zre_values.proofs.Numbers.{begins, has_digits, zero_alone, first_cut, found_whole}
+use Rattle.zre_values.proofs.DecimalNumbers.{begins, has_digits, zero_alone, first_cut, found_whole}
 use Rattle.zre_values.proofs.decimals.read_decimal.Goals as goal
 
 pub returns-in_err-first-clause-back : goal.returns-in_err-first-clause-back

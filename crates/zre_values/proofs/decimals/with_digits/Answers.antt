@@ -1,7 +1,7 @@
 use Rattle.std.proofs.Common.{◌≡◌, ◌∙◌, ◌+◌, ◌-◌, ◌*◌, ◌<◌, ◌^◌, ℕ, true, false, get_or, Some, sym, ap, arith}
 use Rattle.std.specs.Char.{is_ascii_digit}
 use Rattle.std.proofs.lemmas.Fmt.{decimal_injective}
-use Rattle.zre_values.proofs.Numbers.{next, one_more, whole}
+use Rattle.zre_values.proofs.DecimalNumbers.{next, one_more, whole}
 use Rattle.zre_values.proofs.decimals.with_digits.Goals as goal
 
 pub returns-then-not-is_ascii_digit-clause-back : goal.returns-then-not-is_ascii_digit-clause-back

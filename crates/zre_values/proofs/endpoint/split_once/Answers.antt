@@ -1,7 +1,7 @@
 use Rattle.std.proofs.Common.{◌≡◌, ℕ, List, ◌==◌, ◌∷◌, ◌++◌, None, Some, length, take, drop, sym, ap, ◌∙◌}
 use Rattle.std.specs.Prelude.{position}
 use Rattle.std.proofs.lemmas.List.{take_at, drop_at}
-use Rattle.zre_values.proofs.Splits.{position-split, position-parts}
+use Rattle.zre_values.proofs.FirstPlaces.{position-split, position-parts}
 use Rattle.zre_values.proofs.endpoint.split_once.Goals as goal
 
 pub returns-in_err-i-clause-back : goal.returns-in_err-i-clause-back

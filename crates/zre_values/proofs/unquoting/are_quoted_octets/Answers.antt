@@ -1,7 +1,7 @@
 use Rattle.std.proofs.Common.{arith, ◌<◌, ◌^◌, ◌∙◌, ◌∷◌, ◌++◌, [], length}
 use Rattle.std.proofs.lemmas.Grind.{common_steps}
 use Rattle.std.proofs.lemmas.List.Elements.{All-push}
-use Rattle.zre_values.proofs.Quotes.{next, more}
+use Rattle.zre_values.proofs.QuotedTexts.{next, more}
 use Rattle.zre_values.proofs.unquoting.are_quoted_octets.Goals as goal
 
 pub returns-in_default : goal.returns-in_default

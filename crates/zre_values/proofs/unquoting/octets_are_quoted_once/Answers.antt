@@ -1,4 +1,4 @@
-use Rattle.zre_values.proofs.Quotes.{quoted-one}
+use Rattle.zre_values.proofs.QuotedTexts.{quoted-one}
 use Rattle.zre_values.proofs.unquoting.octets_are_quoted_once.Goals as goal
 
 pub returns : goal.returns

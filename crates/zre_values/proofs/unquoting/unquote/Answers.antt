@@ -1,7 +1,7 @@
 use Rattle.std.proofs.Common.{◌∙◌, sym, ap, Some, List, ℕ}
 use Rattle.zre_values.specs.Text.{quoted}
-use Rattle.zre_values.proofs.Plain.{quoted-plain}
-use Rattle.zre_values.proofs.Quotes.{quoted-one, plain-fits}
+use Rattle.zre_values.proofs.PlainOctets.{quoted-plain}
+use Rattle.zre_values.proofs.QuotedTexts.{quoted-one, plain-fits}
 use Rattle.zre_values.proofs.unquoting.unquote.Goals as goal
 
 pub returns-then-are_plain-clause-value : goal.returns-then-are_plain-clause-value

@@ -4,7 +4,7 @@ use Rattle.std.specs.Prelude.{flat_map}
 use Rattle.std.proofs.lemmas.List.{append-nil, nil_from_length}
 use Rattle.std.proofs.lemmas.List.Elements.{All-push, All-same}
 use Rattle.zre_values.specs.Text.{quoted_octet}
-use Rattle.zre_values.proofs.Quotes.{next, one-more, whole}
+use Rattle.zre_values.proofs.QuotedTexts.{next, one-more, whole}
 use Rattle.zre_values.proofs.unquoting.unquote_octets.Goals as goal
 
 pub returns-in_default-clause-back : goal.returns-in_default-clause-back

@@ -3,8 +3,8 @@ use Rattle.std.proofs.lemmas.List.{length-append}
 use Rattle.zre_zmtp.specs.Stream.{fault_of}
 use Rattle.zre_zmtp.specs.Shown.{before_of, header_fault}
 use Rattle.zre_zmtp.proofs.FaultsStay.{fault_of-stays}
-use Rattle.zre_zmtp.proofs.Framed.{IsHeader, is_header, head_of, header-refused, left-frame, waits-body}
-use Rattle.zre_zmtp.proofs.Turning.{turn_waits, turn_refused}
+use Rattle.zre_zmtp.proofs.FrameFaults.{IsHeader, is_header, head_of, header-refused, left-frame, waits-body}
+use Rattle.zre_zmtp.proofs.TurnsOfReaders.{turn_waits, turn_refused}
 use Rattle.zre_zmtp.proofs.begun.begin_frame.Goals as goal
 
 pub returns-in-Some-clause-refused : goal.returns-in-Some-clause-refused

@@ -1,7 +1,7 @@
 use Rattle.std.proofs.Common.{◌≤◌, ◌<◌, length, sym, arith}
 use Rattle.std.specs.Option.{option_copied}
 use Rattle.std.proofs.lemmas.Bool.{eqb-false, eqb-true}
-use Rattle.zre_zmtp.proofs.Properties.{value-stops, value-goes_on, value-ends}
+use Rattle.zre_zmtp.proofs.ReadyProperties.{value-stops, value-goes_on, value-ends}
 use Rattle.zre_zmtp.proofs.command.value_in.Goals as goal
 
 pub returns-in_err-name : goal.returns-in_err-name

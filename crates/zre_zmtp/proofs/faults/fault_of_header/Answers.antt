@@ -1,7 +1,7 @@
 use Rattle.std.proofs.Common.{◌≡◌, ◌≤◌, ◌==◌, List, ℕ, Bool, false, length, sym, ◌∙◌, arith}
 use Rattle.std.proofs.lemmas.Bool.{eqb-true, eqb-false}
 use Rattle.zre_zmtp.specs.Shown.{before_of}
-use Rattle.zre_zmtp.proofs.Faulty.{none_there, header_missing}
+use Rattle.zre_zmtp.proofs.HeaderFaults.{none_there, header_missing}
 use Rattle.zre_zmtp.proofs.faults.fault_of_header.Goals as goal
 
 some_there : (o : List ℕ) (empty : Bool) → empty ≡ (length o == 0) → empty ≡ false → 1 ≤ length o

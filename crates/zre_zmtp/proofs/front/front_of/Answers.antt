@@ -1,5 +1,5 @@
 use Rattle.std.proofs.Common.{◌≤◌, length, refl, sym, ◌∙◌, arith}
-use Rattle.zre_zmtp.proofs.Fronts.{one_front, two_front, shorter_by}
+use Rattle.zre_zmtp.proofs.FrontsOfPieces.{one_front, two_front, shorter_by}
 use Rattle.zre_zmtp.proofs.front.front_of.Goals as goal
 
 pub returns-then-not-has_more : goal.returns-then-not-has_more

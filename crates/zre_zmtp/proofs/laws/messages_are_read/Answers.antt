@@ -1,4 +1,4 @@
-use Rattle.zre_zmtp.proofs.Messages.{message_is_read}
+use Rattle.zre_zmtp.proofs.MessagesAwaited.{message_is_read}
 use Rattle.zre_zmtp.proofs.laws.messages_are_read.Goals as goal
 
 pub returns : goal.returns

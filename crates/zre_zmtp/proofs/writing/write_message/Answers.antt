@@ -2,7 +2,7 @@ use Rattle.std.proofs.Common.{◌≡◌, ◌≤◌, ◌++◌, List, ℕ, length,
 use Rattle.std.specs.List.{flat_map}
 use Rattle.std.proofs.lemmas.List.{append-nil, drop_all}
 use Rattle.zre_values.specs.Framing.{frame, frames}
-use Rattle.zre_zmtp.proofs.Written.{frames-last}
+use Rattle.zre_zmtp.proofs.WrittenFrames.{frames-last}
 use Rattle.zre_zmtp.proofs.writing.write_message.Goals as goal
 
 all_written : (octets : List ℕ) (others : List (List ℕ)) (i : ℕ) → length others ≤ i → octets ++ flat_map (λ y. frame 1 y) (drop i others) ≡ flat_map (λ y. frame 1 y) others → octets ≡ flat_map (λ y. frame 1 y) others

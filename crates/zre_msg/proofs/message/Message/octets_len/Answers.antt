@@ -2,7 +2,7 @@ use Rattle.std.proofs.Common.{arith, ◌∷◌, List, ℕ, ap, ◌∙◌, length
 use Rattle.std.proofs.lemmas.Grind.{common_steps}
 use Rattle.zre_values.specs.Framing.{frames}
 use Rattle.zre_msg.specs.Spelling.{first_frame}
-use Rattle.zre_msg.proofs.Lengths.{length-frames}
+use Rattle.zre_msg.proofs.FrameLengths.{length-frames}
 use Rattle.zre_msg.proofs.message.Message.octets_len.Goals as goal
 
 pub returns-in-Some : goal.returns-in-Some

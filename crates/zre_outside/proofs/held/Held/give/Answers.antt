@@ -1,7 +1,7 @@
 use Rattle.std.proofs.Common.{arith}
 use Rattle.std.proofs.lemmas.List.{take_rest, length-drop}
 use Rattle.std.proofs.lemmas.Grind.{common_steps}
-use Rattle.zre_outside.proofs.Moved.{moved}
+use Rattle.zre_outside.proofs.OctetsMoved.{moved}
 use Rattle.zre_outside.proofs.held.Held.give.Goals as goal
 
 pub returns-clause-moved : goal.returns-clause-moved

@@ -1,6 +1,6 @@
 use Rattle.std.proofs.Common.{sym, ◌∙◌}
-use Rattle.zre_timers.proofs.Map.{removed}
-use Rattle.zre_timers.proofs.Pairs.{Agree-gone}
+use Rattle.zre_timers.proofs.EntriesAsMap.{removed}
+use Rattle.zre_timers.proofs.PairsInBothSets.{Agree-gone}
 use Rattle.zre_timers.proofs.timers.Timers.forget.Goals as goal
 
 pub invariant_of-self : goal.invariant_of-self

@@ -6,8 +6,8 @@ use Rattle.std.specs.declared.ops.Bound.TheVariants.{Included}
 use Rattle.zre_timers.specs.Agreement.{by_moment}
 use Rattle.zre_timers.specs.Moments.{has_moment_between}
 use Rattle.zre_values.specs.Keys.{IsRisingListOf}
-use Rattle.zre_timers.proofs.Map.{rising_by_view}
-use Rattle.zre_timers.proofs.Rising.{between, rising_keys}
+use Rattle.zre_timers.proofs.EntriesAsMap.{rising_by_view}
+use Rattle.zre_timers.proofs.RisingPairs.{between, rising_keys}
 use Rattle.zre_timers.proofs.timers.Timers.keys_between.Goals as goal
 
 pub returns : goal.returns

@@ -1,7 +1,7 @@
 use Rattle.std.proofs.Common.{sym, ap, ◌∙◌}
 use Rattle.std.specs.FinMap as map
 use Rattle.zre_timers.specs.Moments.{Moments}
-use Rattle.zre_timers.proofs.Map.{read}
+use Rattle.zre_timers.proofs.EntriesAsMap.{read}
 use Rattle.zre_timers.proofs.timers.Timers.moment.Goals as goal
 
 pub returns : goal.returns

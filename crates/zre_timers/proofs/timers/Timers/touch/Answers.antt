@@ -1,6 +1,6 @@
 use Rattle.std.proofs.Common.{sym, ◌∙◌, ap, Some}
-use Rattle.zre_timers.proofs.Map.{inserted}
-use Rattle.zre_timers.proofs.Pairs.{Agree-moved, Agree-entered, Agree-stayed, Agree-left_alone}
+use Rattle.zre_timers.proofs.EntriesAsMap.{inserted}
+use Rattle.zre_timers.proofs.PairsInBothSets.{Agree-moved, Agree-entered, Agree-stayed, Agree-left_alone}
 use Rattle.zre_timers.proofs.timers.Timers.touch.Goals as goal
 
 -- no memory for the key: the pair goes out again

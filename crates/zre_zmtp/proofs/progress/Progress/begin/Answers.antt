@@ -3,9 +3,9 @@ use Rattle.std.proofs.lemmas.List.{length-append}
 use Rattle.zre_zmtp.specs.Frame.{header_len}
 use Rattle.zre_zmtp.specs.Stream.{Before}
 use Rattle.zre_zmtp.specs.Shown.{before_of, left_of, header_fault}
-use Rattle.zre_zmtp.proofs.Framed.{IsHeader, is_header, head_of, left-frame}
-use Rattle.zre_zmtp.proofs.Fronts.{frame_of}
-use Rattle.zre_zmtp.proofs.Unfinished.{in_frames, nothing_left, last_comes, frame_waits}
+use Rattle.zre_zmtp.proofs.FrameFaults.{IsHeader, is_header, head_of, left-frame}
+use Rattle.zre_zmtp.proofs.FrontsOfPieces.{frame_of}
+use Rattle.zre_zmtp.proofs.UnfinishedFrames.{in_frames, nothing_left, last_comes, frame_waits}
 use Rattle.zre_zmtp.proofs.progress.Progress.begin.Goals as goal
 
 pub returns-in-Some-clause-taken : goal.returns-in-Some-clause-taken

@@ -4,9 +4,9 @@ use Rattle.zre_zmtp.specs.Frame.{header_of}
 use Rattle.zre_zmtp.specs.declared.progress.Progress.{Progress}
 use Rattle.zre_zmtp.specs.declared.expected.Expected.TheVariants as expect
 use Rattle.zre_zmtp.specs.Shown.{before_of, left_by}
-use Rattle.zre_zmtp.proofs.Framed.{left-frame, waits-no_header}
+use Rattle.zre_zmtp.proofs.FrameFaults.{left-frame, waits-no_header}
 use Rattle.zre_zmtp.proofs.LooksByTurn.{at_most}
-use Rattle.zre_zmtp.proofs.Turning.{turn_waits}
+use Rattle.zre_zmtp.proofs.TurnsOfReaders.{turn_waits}
 use Rattle.zre_zmtp.proofs.progress.Progress.begin_body.Goals as goal
 
 -- what is left where a header alone is there
@@ -33,11 +33,11 @@ pub returns-clause-refused : goal.returns-clause-refused
 returns-clause-refused c =
     rw (whole c.args.head c.args.head c.new-body.result refl c.new-body.ensures.empty) (c.take_frame.ensures.refused c.requires.faultless)
 
-pub returns-clause-kept : goal.returns-clause-kept
-returns-clause-kept c = at_most c.take_frame.result _ _ _ (omega (arith, ap length c.new-body.ensures.empty)) c.take_frame.ensures.kept
+pub returns-clause-held : goal.returns-clause-held
+returns-clause-held c = at_most c.take_frame.result _ _ _ (omega (arith, ap length c.new-body.ensures.empty)) c.take_frame.ensures.held
 
-pub returns-in_default-clause-kept : goal.returns-in_default-clause-kept
-returns-in_default-clause-kept c =
+pub returns-in_default-clause-held : goal.returns-in_default-clause-held
+returns-in_default-clause-held c =
     let o = c.args.head in
     let now = begun c.args.self.now o c.new-body.result c.requires.frame c.new-body.ensures.empty in
     omega (arith, ap length now)

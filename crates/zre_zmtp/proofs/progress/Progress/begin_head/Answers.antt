@@ -1,7 +1,7 @@
 use Rattle.std.proofs.Common.{◌≡◌, None, refl, sym, ◌∙◌}
 use Rattle.zre_zmtp.specs.Shown.{before_of, header_fault}
-use Rattle.zre_zmtp.proofs.HeadParts.{head_waits, head_left}
-use Rattle.zre_zmtp.proofs.Unfinished.{nothing_left}
+use Rattle.zre_zmtp.proofs.HeaderParts.{head_waits, head_left}
+use Rattle.zre_zmtp.proofs.UnfinishedFrames.{nothing_left}
 use Rattle.zre_zmtp.proofs.progress.Progress.begin_head.Goals as goal
 
 pub returns-clause-taken : goal.returns-clause-taken

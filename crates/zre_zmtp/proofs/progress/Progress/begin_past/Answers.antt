@@ -1,8 +1,8 @@
 use Rattle.std.proofs.Common.{◌≡◌, ◌++◌, ℕ, List, length, take, drop, refl, sym, ap, ◌∙◌, arith}
 use Rattle.zre_zmtp.specs.Across.{octets_of}
-use Rattle.zre_zmtp.proofs.Crossings.{none_of, begins_past_on}
-use Rattle.zre_zmtp.proofs.Framed.{head_of}
-use Rattle.zre_zmtp.proofs.Turning.{joined}
+use Rattle.zre_zmtp.proofs.PiecesAcrossFrames.{none_of, begins_past_on}
+use Rattle.zre_zmtp.proofs.FrameFaults.{head_of}
+use Rattle.zre_zmtp.proofs.TurnsOfReaders.{joined}
 use Rattle.zre_zmtp.proofs.progress.Progress.begin_past.Goals as goal
 
 pub returns-clause-taken : goal.returns-clause-taken

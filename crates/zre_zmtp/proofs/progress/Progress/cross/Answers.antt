@@ -8,11 +8,11 @@ use Rattle.zre_zmtp.specs.declared.across.Next.TheVariants as next
 use Rattle.zre_zmtp.specs.Across.{Follows}
 use Rattle.zre_zmtp.specs.Shown.{before_of, left_of}
 use Rattle.zre_zmtp.specs.Stream.{Before}
-use Rattle.zre_zmtp.proofs.Crossings.{nothing_crosses, part_crosses, last_crosses}
-use Rattle.zre_zmtp.proofs.HeadParts.{head_crosses, head_left}
-use Rattle.zre_zmtp.proofs.Framed.{left-nothing, left-frame}
-use Rattle.zre_zmtp.proofs.Fronts.{in_traffic}
-use Rattle.zre_zmtp.proofs.Unfinished.{in_frames}
+use Rattle.zre_zmtp.proofs.PiecesAcrossFrames.{nothing_crosses, part_crosses, last_crosses}
+use Rattle.zre_zmtp.proofs.HeaderParts.{head_crosses, head_left}
+use Rattle.zre_zmtp.proofs.FrameFaults.{left-nothing, left-frame}
+use Rattle.zre_zmtp.proofs.FrontsOfPieces.{in_traffic}
+use Rattle.zre_zmtp.proofs.UnfinishedFrames.{in_frames}
 use Rattle.zre_zmtp.proofs.progress.Progress.cross.Goals as goal
 
 pub returns-in-Last-clause-taken : goal.returns-in-Last-clause-taken

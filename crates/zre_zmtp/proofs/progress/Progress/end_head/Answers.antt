@@ -4,7 +4,7 @@ use Rattle.zre_zmtp.specs.declared.bodies.Came.TheVariants as came
 use Rattle.zre_zmtp.specs.declared.partial.Partial.{Partial}
 use Rattle.zre_zmtp.specs.Lending.{TakesPiece}
 use Rattle.zre_zmtp.specs.Frame.{header_of}
-use Rattle.zre_zmtp.proofs.HeadParts.{ended_on}
+use Rattle.zre_zmtp.proofs.HeaderParts.{ended_on}
 use Rattle.zre_zmtp.proofs.progress.Progress.end_head.Goals as goal
 
 pub returns-in-Message-clause-taken : goal.returns-in-Message-clause-taken

@@ -2,8 +2,8 @@ use Rattle.std.proofs.Common.{◌≡◌, ◌+◌, ◌++◌, ℕ, List, [], lengt
 use Rattle.std.proofs.lemmas.List.{length-append}
 use Rattle.zre_zmtp.specs.Stream.{Before}
 use Rattle.zre_zmtp.specs.Shown.{before_of, left_of}
-use Rattle.zre_zmtp.proofs.Framed.{left-frame, left-nothing}
-use Rattle.zre_zmtp.proofs.Unfinished.{headed, fine, grown, in_frames, frame_waits, message_ends}
+use Rattle.zre_zmtp.proofs.FrameFaults.{left-frame, left-nothing}
+use Rattle.zre_zmtp.proofs.UnfinishedFrames.{headed, fine, grown, in_frames, frame_waits, message_ends}
 use Rattle.zre_zmtp.proofs.progress.Progress.go_on.Goals as goal
 
 pub returns-then-len-missing-clause-taken : goal.returns-then-len-missing-clause-taken

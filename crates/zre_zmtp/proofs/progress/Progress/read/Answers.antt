@@ -4,7 +4,7 @@ use Rattle.std.proofs.lemmas.List.{append-nil, take-append-drop, length-drop}
 use Rattle.std.proofs.lemmas.Result.{err_from_is_err_and}
 use Rattle.zre_zmtp.specs.Run.{run_all}
 use Rattle.zre_zmtp.specs.Shown.{before_of, left_of}
-use Rattle.zre_zmtp.proofs.Turning.{one_turn, all_read, refused_turn}
+use Rattle.zre_zmtp.proofs.TurnsOfReaders.{one_turn, all_read, refused_turn}
 use Rattle.zre_zmtp.proofs.progress.Progress.read.Goals as goal
 
 joined : (n : ℕ) (o later : List ℕ) → later ≡ drop n o → o ≡ take n o ++ later

@@ -1,7 +1,7 @@
 use Rattle.std.proofs.Common.{◌+◌, ◌≤◌, length, ◌++◌}
 use Rattle.zre_zmtp.specs.Run.{run_all}
 use Rattle.zre_zmtp.specs.Shown.{before_of, left_of, held, Waits}
-use Rattle.zre_zmtp.proofs.Turning.{IsAmid}
+use Rattle.zre_zmtp.proofs.TurnsOfReaders.{IsAmid}
 use Rattle.zre_zmtp.proofs.LooksByTurn.{IsPaidSoFar}
 use Rattle.zre_zmtp.proofs.progress.Progress.read.Given as goal
 

@@ -3,9 +3,9 @@ use Rattle.std.proofs.lemmas.List.{length-append}
 use Rattle.zre_zmtp.specs.declared.partial.Partial.{Partial}
 use Rattle.zre_zmtp.specs.declared.progress.Progress.{Progress}
 use Rattle.zre_zmtp.specs.declared.header.Header.{Header}
-use Rattle.zre_zmtp.proofs.Framed.{left-partial}
+use Rattle.zre_zmtp.proofs.FrameFaults.{left-partial}
 use Rattle.zre_zmtp.proofs.LooksByTurn.{paid}
-use Rattle.zre_zmtp.proofs.Unfinished.{fine, grown}
+use Rattle.zre_zmtp.proofs.UnfinishedFrames.{fine, grown}
 use Rattle.zre_zmtp.proofs.progress.Progress.take_body.Goals as goal
 
 -- what the header says that was kept
@@ -31,5 +31,5 @@ returns-clause-looks g c =
     let grows : length c.add.new.self ≡ length p.body + length c.args.more.now = ap length c.in_ok-add.ensures.ok ∙ length-append p.body c.args.more.now in
     record {
       once = omega (arith, c.in_ok-add.ensures.looks);
-      paid = paid c.take_frame.result _ _ _ _ _ _ (omega (arith, ap length left, length-append p.head p.body, grows, c.in_ok-add.ensures.looks)) c.take_frame.ensures.kept;
+      paid = paid c.take_frame.result _ _ _ _ _ _ (omega (arith, ap length left, length-append p.head p.body, grows, c.in_ok-add.ensures.looks)) c.take_frame.ensures.held;
     }

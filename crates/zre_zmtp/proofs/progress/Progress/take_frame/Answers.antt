@@ -4,9 +4,9 @@ use Rattle.std.proofs.lemmas.List.{append-nil, length-append}
 use Rattle.std.proofs.lemmas.Result.{err_from_is_err_and}
 use Rattle.zre_zmtp.specs.Stream.{Before}
 use Rattle.zre_zmtp.specs.Shown.{before_of, left_of, Advances, RefusesAt}
-use Rattle.zre_zmtp.proofs.Framed.{is_framed, is_header, left-frame, left-none, waits-body}
+use Rattle.zre_zmtp.proofs.FrameFaults.{is_framed, is_header, left-frame, left-none, waits-body}
 use Rattle.zre_zmtp.proofs.LooksByTurn.{frame_kept}
-use Rattle.zre_zmtp.proofs.Turning.{frame_taken, frame_refused, turn_waits}
+use Rattle.zre_zmtp.proofs.TurnsOfReaders.{frame_taken, frame_refused, turn_waits}
 use Rattle.zre_zmtp.proofs.progress.Progress.take_frame.Goals as goal
 
 pub returns-then-len-header-clause-ok : goal.returns-then-len-header-clause-ok
@@ -20,14 +20,14 @@ returns-then-len-header-clause-ok c =
     let still = waits-body c.args.want.now b h head body c.requires.frame (is_header h head c.requires.header c.requires.within) fine lt in
     turn_waits c.args.want.now b (head ++ body) c.args.out.now c.args.out.now b _ still.faultless still.partial refl refl (left-frame c.args.self.now.expected c.args.self.now.greeting _ _ c.requires.frame)
 
-pub returns-then-len-header-clause-kept : goal.returns-then-len-header-clause-kept
-returns-then-len-header-clause-kept c =
+pub returns-then-len-header-clause-held : goal.returns-then-len-header-clause-held
+returns-then-len-header-clause-held c =
     let head = c.args.frame.head in
     let body = c.args.frame.body in
     omega (arith, ap length (left-frame c.args.self.now.expected c.args.self.now.greeting head body c.requires.frame), length-append head body)
 
-pub returns-then-len-header-clause-kept_whole : goal.returns-then-len-header-clause-kept_whole
-returns-then-len-header-clause-kept_whole c = λ whole. omega (arith, whole, c.len.ensures, c.if-len-header.true)
+pub returns-then-len-header-clause-held_whole : goal.returns-then-len-header-clause-held_whole
+returns-then-len-header-clause-held_whole c = λ whole. omega (arith, whole, c.len.ensures, c.if-len-header.true)
 
 pub returns-in_err-item-clause-refused : goal.returns-in_err-item-clause-refused
 returns-in_err-item-clause-refused c =
@@ -41,38 +41,38 @@ pub returns-in_ok-push-clause-ok : goal.returns-in_ok-push-clause-ok
 returns-in_ok-push-clause-ok c =
     let b = before_of c.args.self.now in
     let e = c.in_ok-item.ensures in
-    λ fine. subst (λ (x : List ℕ). Advances c.args.want.now b (c.args.frame.head ++ x) c.args.out.now c.push.new.self (before_of c.finish_frame.new.self) (left_of c.finish_frame.new.self)) c.finish.ensures
+    λ fine. subst (λ (x : List ℕ). Advances c.args.want.now b (c.args.frame.head ++ x) c.args.out.now c.push.new.self (before_of c.finish_owned_frame.new.self) (left_of c.finish_owned_frame.new.self)) c.finish.ensures
     (frame_taken c.args.want.now b c.args.frame.header c.args.frame.head c.finish.result c.len-2.result c.args.out.now c.push.new.self _ _
     (is_framed c.args.want.now b c.args.frame.header c.args.frame.head c.finish.result c.requires.frame c.requires.header c.requires.within (omega (arith, ap length c.finish.ensures, c.len.ensures, c.if-len-header.false, c.requires.room)) fine) e.faultless c.len-2.ensures
     (c.in_ok-push.ensures.ok ∙ ap (λ i. c.args.out.now ++ option_to_list i) (sym c.in-Some.is ∙ e.says)) e.after
-    (left-none c.args.self.now c.finish_frame.new.self c.requires.no_head c.requires.no_body e.partial (ap (λ (x : Before). x.expected) e.after)))
+    (left-none c.args.self.now c.finish_owned_frame.new.self c.requires.no_head c.requires.no_body e.partial (ap (λ (x : Before). x.expected) e.after)))
 
 pub returns-in_default-clause-ok : goal.returns-in_default-clause-ok
 returns-in_default-clause-ok c =
     let b = before_of c.args.self.now in
     let e = c.in_ok-item.ensures in
-    λ fine. subst (λ (x : List ℕ). Advances c.args.want.now b (c.args.frame.head ++ x) c.args.out.now c.args.out.now (before_of c.finish_frame.new.self) (left_of c.finish_frame.new.self)) c.finish.ensures
+    λ fine. subst (λ (x : List ℕ). Advances c.args.want.now b (c.args.frame.head ++ x) c.args.out.now c.args.out.now (before_of c.finish_owned_frame.new.self) (left_of c.finish_owned_frame.new.self)) c.finish.ensures
     (frame_taken c.args.want.now b c.args.frame.header c.args.frame.head c.finish.result c.len-2.result c.args.out.now c.args.out.now _ _
     (is_framed c.args.want.now b c.args.frame.header c.args.frame.head c.finish.result c.requires.frame c.requires.header c.requires.within (omega (arith, ap length c.finish.ensures, c.len.ensures, c.if-len-header.false, c.requires.room)) fine) e.faultless c.len-2.ensures
     (sym (append-nil c.args.out.now) ∙ ap (λ i. c.args.out.now ++ option_to_list i) (sym c.in_default.is ∙ e.says)) e.after
-    (left-none c.args.self.now c.finish_frame.new.self c.requires.no_head c.requires.no_body e.partial (ap (λ (x : Before). x.expected) e.after)))
+    (left-none c.args.self.now c.finish_owned_frame.new.self c.requires.no_head c.requires.no_body e.partial (ap (λ (x : Before). x.expected) e.after)))
 
-pub returns-in_ok-push-clause-kept : goal.returns-in_ok-push-clause-kept
-returns-in_ok-push-clause-kept c =
+pub returns-in_ok-push-clause-held : goal.returns-in_ok-push-clause-held
+returns-in_ok-push-clause-held c =
     let e = c.in_ok-item.ensures in
-    omega (arith, ap length c.finish.ensures, frame_kept (before_of c.args.self.now) c.args.frame.header c.finish.result _ (before_of c.finish_frame.new.self) _ e.after (left-none c.args.self.now c.finish_frame.new.self c.requires.no_head c.requires.no_body e.partial (ap (λ (x : Before). x.expected) e.after)))
+    omega (arith, ap length c.finish.ensures, frame_kept (before_of c.args.self.now) c.args.frame.header c.finish.result _ (before_of c.finish_owned_frame.new.self) _ e.after (left-none c.args.self.now c.finish_owned_frame.new.self c.requires.no_head c.requires.no_body e.partial (ap (λ (x : Before). x.expected) e.after)))
 
-pub returns-in_ok-push-clause-kept_whole : goal.returns-in_ok-push-clause-kept_whole
-returns-in_ok-push-clause-kept_whole c =
+pub returns-in_ok-push-clause-held_whole : goal.returns-in_ok-push-clause-held_whole
+returns-in_ok-push-clause-held_whole c =
     let e = c.in_ok-item.ensures in
-    λ whole. omega (arith, ap length c.finish.ensures, frame_kept (before_of c.args.self.now) c.args.frame.header c.finish.result _ (before_of c.finish_frame.new.self) _ e.after (left-none c.args.self.now c.finish_frame.new.self c.requires.no_head c.requires.no_body e.partial (ap (λ (x : Before). x.expected) e.after)))
+    λ whole. omega (arith, ap length c.finish.ensures, frame_kept (before_of c.args.self.now) c.args.frame.header c.finish.result _ (before_of c.finish_owned_frame.new.self) _ e.after (left-none c.args.self.now c.finish_owned_frame.new.self c.requires.no_head c.requires.no_body e.partial (ap (λ (x : Before). x.expected) e.after)))
 
-pub returns-in_default-clause-kept : goal.returns-in_default-clause-kept
-returns-in_default-clause-kept c =
+pub returns-in_default-clause-held : goal.returns-in_default-clause-held
+returns-in_default-clause-held c =
     let e = c.in_ok-item.ensures in
-    omega (arith, ap length c.finish.ensures, frame_kept (before_of c.args.self.now) c.args.frame.header c.finish.result _ (before_of c.finish_frame.new.self) _ e.after (left-none c.args.self.now c.finish_frame.new.self c.requires.no_head c.requires.no_body e.partial (ap (λ (x : Before). x.expected) e.after)))
+    omega (arith, ap length c.finish.ensures, frame_kept (before_of c.args.self.now) c.args.frame.header c.finish.result _ (before_of c.finish_owned_frame.new.self) _ e.after (left-none c.args.self.now c.finish_owned_frame.new.self c.requires.no_head c.requires.no_body e.partial (ap (λ (x : Before). x.expected) e.after)))
 
-pub returns-in_default-clause-kept_whole : goal.returns-in_default-clause-kept_whole
-returns-in_default-clause-kept_whole c =
+pub returns-in_default-clause-held_whole : goal.returns-in_default-clause-held_whole
+returns-in_default-clause-held_whole c =
     let e = c.in_ok-item.ensures in
-    λ whole. omega (arith, ap length c.finish.ensures, frame_kept (before_of c.args.self.now) c.args.frame.header c.finish.result _ (before_of c.finish_frame.new.self) _ e.after (left-none c.args.self.now c.finish_frame.new.self c.requires.no_head c.requires.no_body e.partial (ap (λ (x : Before). x.expected) e.after)))
+    λ whole. omega (arith, ap length c.finish.ensures, frame_kept (before_of c.args.self.now) c.args.frame.header c.finish.result _ (before_of c.finish_owned_frame.new.self) _ e.after (left-none c.args.self.now c.finish_owned_frame.new.self c.requires.no_head c.requires.no_body e.partial (ap (λ (x : Before). x.expected) e.after)))

@@ -1,7 +1,7 @@
 use Rattle.std.proofs.Common.{◌≡◌, ◌<◌, ◌≤◌, ◌∙◌, ◌∷◌, [], ◌++◌, List, ℕ, length, sym, ap, arith}
 use Rattle.zre_zmtp.specs.Shown.{before_of, left_of}
-use Rattle.zre_zmtp.proofs.Framed.{left-greeting}
-use Rattle.zre_zmtp.proofs.Turning.{greeting_refused, greeting_waits, greeting_whole}
+use Rattle.zre_zmtp.proofs.FrameFaults.{left-greeting}
+use Rattle.zre_zmtp.proofs.TurnsOfReaders.{greeting_refused, greeting_waits, greeting_whole}
 use Rattle.zre_zmtp.proofs.progress.Progress.take_greeting.Goals as goal
 
 pub returns-in-Some-clause-refused : goal.returns-in-Some-clause-refused

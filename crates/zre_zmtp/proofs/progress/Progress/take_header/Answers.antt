@@ -4,9 +4,9 @@ use Rattle.zre_zmtp.specs.declared.partial.Partial.{Partial}
 use Rattle.zre_zmtp.specs.declared.progress.Progress.{Progress}
 use Rattle.zre_zmtp.specs.declared.expected.Expected.TheVariants as expect
 use Rattle.zre_zmtp.specs.Shown.{before_of, left_of, header_fault}
-use Rattle.zre_zmtp.proofs.Framed.{left-partial, header-short, header-within, header-refused}
+use Rattle.zre_zmtp.proofs.FrameFaults.{left-partial, header-short, header-within, header-refused}
 use Rattle.zre_zmtp.proofs.LooksByTurn.{at_most}
-use Rattle.zre_zmtp.proofs.Turning.{turn_refused}
+use Rattle.zre_zmtp.proofs.TurnsOfReaders.{turn_refused}
 use Rattle.zre_zmtp.proofs.progress.Progress.take_header.Goals as goal
 
 -- the octets of the header so far, and one more
@@ -37,10 +37,10 @@ returns-clause-refused c =
     let all = grown c.args.self.now c.replace-head.result c.push.new.self c.args.octet c.requires.frame c.requires.header c.replace-head.ensures.value c.push.ensures in
     λ w. rw all c.begin_body.ensures.refused
 
-pub returns-clause-kept : goal.returns-clause-kept
-returns-clause-kept c =
+pub returns-clause-held : goal.returns-clause-held
+returns-clause-held c =
     let all = grown c.args.self.now c.replace-head.result c.push.new.self c.args.octet c.requires.frame c.requires.header c.replace-head.ensures.value c.push.ensures in
-    at_most c.begin_body.result _ _ _ (omega (arith, ap length all, length-append (left_of c.args.self.now) (c.args.octet ∷ []))) c.begin_body.ensures.kept
+    at_most c.begin_body.result _ _ _ (omega (arith, ap length all, length-append (left_of c.args.self.now) (c.args.octet ∷ []))) c.begin_body.ensures.held
 
 pub push-requires : goal.push-requires
 push-requires c =

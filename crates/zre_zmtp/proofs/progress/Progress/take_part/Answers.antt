@@ -1,5 +1,5 @@
 use Rattle.std.proofs.Common.{length, ap, arith}
-use Rattle.zre_zmtp.proofs.Framed.{one_octet, room-greeting, room-header}
+use Rattle.zre_zmtp.proofs.FrameFaults.{one_octet, room-greeting, room-header}
 use Rattle.zre_zmtp.proofs.LooksByTurn.{paid}
 use Rattle.zre_zmtp.proofs.progress.Progress.take_part.Goals as goal
 
@@ -21,7 +21,7 @@ returns-in_default-None g c =
       refused = λ w. rw one (c.take_header.ensures.refused w);
       looks = record {
         once = omega arith;
-        paid = paid c.take_header.result _ _ _ _ _ _ (omega (arith, ap length one)) c.take_header.ensures.kept;
+        paid = paid c.take_header.result _ _ _ _ _ _ (omega (arith, ap length one)) c.take_header.ensures.held;
       };
     }
 

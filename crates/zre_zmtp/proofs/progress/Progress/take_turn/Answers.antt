@@ -3,8 +3,8 @@ use Rattle.std.proofs.lemmas.List.{take_all}
 use Rattle.std.proofs.lemmas.Result.{err_from_is_err_and}
 use Rattle.zre_zmtp.specs.Run.{run_all}
 use Rattle.zre_zmtp.specs.Shown.{before_of, left_of}
-use Rattle.zre_zmtp.proofs.Framed.{left-frame}
-use Rattle.zre_zmtp.proofs.Turning.{begins, joined, refused_turn}
+use Rattle.zre_zmtp.proofs.FrameFaults.{left-frame}
+use Rattle.zre_zmtp.proofs.TurnsOfReaders.{begins, joined, refused_turn}
 use Rattle.zre_zmtp.proofs.progress.Progress.take_turn.Goals as goal
 
 pub returns-in_err-take_part-clause-refused : goal.returns-in_err-take_part-clause-refused

@@ -5,11 +5,11 @@ use Rattle.zre_zmtp.specs.declared.partial.Partial.{Partial}
 use Rattle.zre_zmtp.specs.Stream.{Before, fault_of}
 use Rattle.zre_zmtp.specs.Run.{run_all}
 use Rattle.zre_zmtp.specs.Shown.{before_of, left_of, header_fault, is_content}
-use Rattle.zre_zmtp.proofs.Contents.{content_is_faultless}
+use Rattle.zre_zmtp.proofs.ContentFrames.{content_is_faultless}
 use Rattle.zre_zmtp.proofs.FaultsStay.{fault_of-stays}
-use Rattle.zre_zmtp.proofs.Framed.{head_of, header-refused, is_framed, left-nothing}
+use Rattle.zre_zmtp.proofs.FrameFaults.{head_of, header-refused, is_framed, left-nothing}
 use Rattle.zre_zmtp.proofs.LooksByTurn.{frame_kept}
-use Rattle.zre_zmtp.proofs.Turning.{begins, joined, waits_from, no_part, no_octets, turn_refused, refused_turn, frame_taken}
+use Rattle.zre_zmtp.proofs.TurnsOfReaders.{begins, joined, waits_from, no_part, no_octets, turn_refused, refused_turn, frame_taken}
 use Rattle.zre_zmtp.proofs.progress.Progress.take_whole.Goals as goal
 
 -- a header, a body and what stands after them
@@ -80,30 +80,30 @@ returns-then-is_content-clause-ok g c =
     let fine : header_fault b head ≡ None = sym (c.fault_of_whole.ensures head at.header) ∙ c.in_default.is in
     let whole = parted o head c.split_at.result.1.now body _ at.whole (joined _ c.split_at.result.1.now body c.split_at-2.ensures.front) in
     let m : is_content b.expected c.args.header.flags ≡ true = sym c.is_content.ensures ∙ c.if-is_content.true in
-    let e = c.in_ok-take_content.ensures in
-    let now = c.take_content.new.self in
+    let e = c.in_ok-finish_lent_content.ensures in
+    let now = c.finish_lent_content.new.self in
     let none : now.partial.head ≡ [] = ap (λ (p : Partial). p.head) e.partial ∙ c.requires.no_head in
     let none' : now.partial.body ≡ [] = ap (λ (p : Partial). p.body) e.partial ∙ c.requires.no_body in
     rw (front_of o head body _ whole)
-    (frame_taken c.args.want.now b c.args.header head body (length head) c.args.out.now c.take_content.new.out (before_of now) (left_of now)
+    (frame_taken c.args.want.now b c.args.header head body (length head) c.args.out.now c.finish_lent_content.new.out (before_of now) (left_of now)
     (is_framed c.args.want.now b c.args.header head body c.requires.frame at.header at.within c.split_at-2.ensures.front_len fine)
     (content_is_faultless c.args.want.now b c.args.header.flags body m) refl e.given e.after
     (left-nothing now.expected now.greeting now.partial.head now.partial.body (ap (λ (x : Before). x.expected) e.after) none none'))
 
-pub returns-then-is_content-clause-kept : goal.returns-then-is_content-clause-kept
-returns-then-is_content-clause-kept g c =
+pub returns-then-is_content-clause-held : goal.returns-then-is_content-clause-held
+returns-then-is_content-clause-held g c =
     let b = before_of c.args.self.now in
     let body = c.split_at-2.result.0.now in
-    let e = c.in_ok-take_content.ensures in
-    let now = c.take_content.new.self in
+    let e = c.in_ok-finish_lent_content.ensures in
+    let now = c.finish_lent_content.new.self in
     let none : now.partial.head ≡ [] = ap (λ (p : Partial). p.head) e.partial ∙ c.requires.no_head in
     let none' : now.partial.body ≡ [] = ap (λ (p : Partial). p.body) e.partial ∙ c.requires.no_body in
     let kept = frame_kept b c.args.header body _ (before_of now) (left_of now) e.after
     (left-nothing now.expected now.greeting now.partial.head now.partial.body (ap (λ (x : Before). x.expected) e.after) none none') in
     omega (arith, kept, c.split_at-2.ensures.front_len)
 
-pub returns-clause-kept : goal.returns-clause-kept
-returns-clause-kept g c =
+pub returns-clause-held : goal.returns-clause-held
+returns-clause-held g c =
     let same = copied c.add.new.self c.new-copied.result c.split_at-2.result.0.now c.in_ok-add.ensures.ok c.new-copied.ensures.empty in
     let sized : length c.add.new.self ≡ c.args.header.size = ap length same ∙ c.split_at-2.ensures.front_len in
-    omega (arith, c.in_ok-take_frame.ensures.kept_whole sized, sized)
+    omega (arith, c.in_ok-take_frame.ensures.held_whole sized, sized)

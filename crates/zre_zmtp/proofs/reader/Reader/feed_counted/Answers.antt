@@ -4,7 +4,7 @@ use Rattle.zre_zmtp.specs.Stream.{fault_of}
 use Rattle.zre_zmtp.specs.Run.{run_all}
 use Rattle.zre_zmtp.specs.Reading.{Reading, Refuses}
 use Rattle.zre_zmtp.specs.Shown.{Waits, Advances, before_of, left_of}
-use Rattle.zre_zmtp.proofs.Feeding.{fed, refused, waits_reader}
+use Rattle.zre_zmtp.proofs.ReadersFollowStreams.{fed, refused, waits_reader}
 use Rattle.zre_zmtp.proofs.reader.Reader.feed_counted.Goals as goal
 
 pub returns-in_err-read-clause-refused : goal.returns-in_err-read-clause-refused

@@ -1,6 +1,6 @@
 use Rattle.std.proofs.Common.{◌≡◌, ◌<◌, ◌∙◌, Bool, true, false, List, ℕ, length, get_or, sym, ap, subst, refl, IsTrue, arith}
 use Rattle.std.proofs.lemmas.Result.{err_from_is_err_and}
-use Rattle.zre_zmtp.proofs.Pieces.{length-take-more, length-within, read_one_more, read_refused}
+use Rattle.zre_zmtp.proofs.ItemsOfTwoPieces.{length-take-more, length-within, read_one_more, read_refused}
 use Rattle.zre_zmtp.proofs.reader.Reader.feed_pieces_counted.Goals as goal
 
 not_spent : (b : Bool) → (IsTrue b → false ≡ true) → b ≡ false

@@ -3,7 +3,7 @@ use Rattle.std.specs.List.{concat}
 use Rattle.zre_zmtp.specs.Stream.{Want, Kind}
 use Rattle.zre_zmtp.specs.Reading.{Reads, kept}
 use Rattle.zre_zmtp.specs.Looks.{IsPaid}
-use Rattle.zre_zmtp.proofs.Pieces.{HasRead}
+use Rattle.zre_zmtp.proofs.ItemsOfTwoPieces.{HasRead}
 use Rattle.zre_zmtp.proofs.reader.Reader.feed_pieces_counted.Given as goal
 
 abbrev pub invariant-loop-piece : goal.invariant-loop-piece

@@ -1,7 +1,7 @@
 use Rattle.std.proofs.Common.{◌≡◌, length, sym, ap, arith}
 use Rattle.std.specs.Prelude.{sum_by}
 use Rattle.zre_zmtp.specs.Reading.{Reading}
-use Rattle.zre_zmtp.proofs.OctetsKept.{kept_most}
+use Rattle.zre_zmtp.proofs.OctetsHeld.{kept_most}
 use Rattle.zre_zmtp.proofs.reader.Reader.kept.Goals as goal
 
 pub returns : goal.returns

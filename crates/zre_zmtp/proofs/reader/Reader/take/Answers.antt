@@ -1,7 +1,7 @@
 use Rattle.std.proofs.Common.{◌≡◌, false, refl, sym, ap, ◌∙◌}
 use Rattle.zre_zmtp.specs.Reading.{Reading}
 use Rattle.zre_zmtp.specs.Shown.{before_of, left_of}
-use Rattle.zre_zmtp.proofs.Lendings.{passes_all, taken_on}
+use Rattle.zre_zmtp.proofs.LentPieces.{passes_all, taken_on}
 use Rattle.zre_zmtp.proofs.reader.Reader.take.Goals as goal
 
 pub returns-in-Some-clause-taken : goal.returns-in-Some-clause-taken

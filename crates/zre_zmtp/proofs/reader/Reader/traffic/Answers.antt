@@ -1,5 +1,5 @@
 use Rattle.zre_zmtp.specs.Stream.{Any}
-use Rattle.zre_zmtp.proofs.Feeding.{reads_traffic}
+use Rattle.zre_zmtp.proofs.ReadersFollowStreams.{reads_traffic}
 use Rattle.zre_zmtp.proofs.reader.Reader.traffic.Goals as goal
 
 pub returns : goal.returns

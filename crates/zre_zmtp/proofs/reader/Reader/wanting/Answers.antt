@@ -1,4 +1,4 @@
-use Rattle.zre_zmtp.proofs.Feeding.{reads_whole}
+use Rattle.zre_zmtp.proofs.ReadersFollowStreams.{reads_whole}
 use Rattle.zre_zmtp.proofs.reader.Reader.wanting.Goals as goal
 
 pub returns : goal.returns

@@ -18,10 +18,10 @@ use Rattle.zre_zmtp.specs.Lending.{bodies_in, given, Brings, TakesPiece}
 use Rattle.zre_zmtp.specs.Shown.{before_of, left_of, header_fault, frame_item, frame_after, Waits, Advances}
 use Rattle.zre_zmtp.specs.Stream.{Want, Before}
 use Rattle.zre_zmtp.specs.Run.{run_all}
-use Rattle.zre_zmtp.proofs.Framed.{HeadOf, IsHeader, is_header, is_framed}
-use Rattle.zre_zmtp.proofs.Fronts.{in_traffic, first_after, first_item, traffic_fine}
-use Rattle.zre_zmtp.proofs.Turning.{begins, one_turn, all_read, frame_taken, turn_waits, no_octets}
-use Rattle.zre_zmtp.proofs.Unfinished.{headed, fine, grown, in_frames, traffic_is, message_ends, frame_waits, no_body, nothing_left}
+use Rattle.zre_zmtp.proofs.FrameFaults.{HeadOf, IsHeader, is_header, is_framed}
+use Rattle.zre_zmtp.proofs.FrontsOfPieces.{in_traffic, first_after, first_item, traffic_fine}
+use Rattle.zre_zmtp.proofs.TurnsOfReaders.{begins, one_turn, all_read, frame_taken, turn_waits, no_octets}
+use Rattle.zre_zmtp.proofs.UnfinishedFrames.{headed, fine, grown, in_frames, traffic_is, message_ends, frame_waits, no_body, nothing_left}
 
 -- octets up to the end of a part, and those after it
 two_turns : (want : Want) (b mid now : Before) (left c o left' : List ℕ) (out new : List Item) → Waits want b left → Advances want b (left ++ c) out out mid [] → Advances want mid o out new now left'

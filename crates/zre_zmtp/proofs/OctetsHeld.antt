@@ -13,12 +13,12 @@ use Rattle.zre_zmtp.specs.declared.expected.Expected.TheVariants as expect
 use Rattle.zre_zmtp.specs.Stream.{Want, Before, Kind, Parts, before, expected, opened, opened_with, cut, split, fault_at, frame_fault, size_fault, whole_len, part_len}
 use Rattle.zre_values.specs.declared.limits.TheConstants.{MESSAGE_OCTETS, COMMAND_OCTETS}
 use Rattle.zre_zmtp.specs.Reading.{Reading, Reads, kept}
-use Rattle.zre_zmtp.proofs.KnownStays.{headed, IsWhole}
+use Rattle.zre_zmtp.proofs.KnownHeadersStay.{headed, IsWhole}
 use Rattle.zre_zmtp.proofs.FaultsStay.{is_part, IsPart, frame-len}
-use Rattle.zre_zmtp.proofs.Cuts.{cases_Option, cut-none, cut-some, cut-ends}
+use Rattle.zre_zmtp.proofs.OctetsCutIntoParts.{cases_Option, cut-none, cut-some, cut-ends}
 use Rattle.zre_zmtp.proofs.MoreOfOnePart.{HeadFine, head_fine}
 use Rattle.zre_zmtp.proofs.WholeFrames.{IsFrame, exact}
-use Rattle.zre_zmtp.proofs.Framed.{why_none}
+use Rattle.zre_zmtp.proofs.FrameFaults.{why_none}
 
 pub row-off : (t : Bool) (w : ZmtpWhy) (rest : Option ZmtpWhy) → cond t (Some w) rest ≡ None → (t ≡ false) × (rest ≡ None)
 row-off true w rest e = absurd (none-some w (sym e))

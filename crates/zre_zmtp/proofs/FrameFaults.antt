@@ -14,9 +14,9 @@ use Rattle.zre_zmtp.specs.Frame.{flags, header_len, has_header, size, frame_len,
 use Rattle.zre_zmtp.specs.Stream.{Want, Before, once, flags_fault, size_fault, body_fault, frame_why, frame_fault, fault_of, fault_at, whole_len, what_of, said, start_of, opened_with, opened_by, item}
 use Rattle.zre_zmtp.specs.Run.{after, next_expected}
 use Rattle.zre_zmtp.specs.Shown.{header_fault, frame_item, frame_after, left_by, left_of, room, Waits}
-use Rattle.zre_zmtp.proofs.KnownStays.{flags-more, Headed, headed, has_header-from, Headed-more, size-more, header_len-more, IsWhole, is_whole-from}
+use Rattle.zre_zmtp.proofs.KnownHeadersStay.{flags-more, Headed, headed, has_header-from, Headed-more, size-more, header_len-more, IsWhole, is_whole-from}
 use Rattle.zre_zmtp.proofs.MoreOfOnePart.{HeadFine, HeadFine-more, head_fine, why_after, once-true}
-use Rattle.zre_zmtp.proofs.Cuts.{cases_Option}
+use Rattle.zre_zmtp.proofs.OctetsCutIntoParts.{cases_Option}
 
 -- ---- where a frame is expected
 

@@ -11,7 +11,7 @@ use Rattle.zre_zmtp.specs.Lending.{given, Brings, BringsOn, TakesPiece, TakesOn}
 use Rattle.zre_zmtp.specs.Reading.{Reading, Reads, Adds}
 use Rattle.zre_zmtp.specs.Shown.{before_of, left_of, Waits, Advances}
 use Rattle.zre_zmtp.specs.Stream.{Before}
-use Rattle.zre_zmtp.proofs.Feeding.{fed, waits_reader}
+use Rattle.zre_zmtp.proofs.ReadersFollowStreams.{fed, waits_reader}
 
 -- a message that a piece is
 pub passes_all : (was now : Reading) (f : Front) (l : LentBodies) (o : List ℕ) → l.first ≡ f.first → l.second ≡ f.second → PassesOn was now f o → f.len ≡ length o → TakesOn (came.Message l) was now o

@@ -14,9 +14,9 @@ use Rattle.zre_zmtp.specs.Frame.{header_of, header_len, is_message, has_more}
 use Rattle.zre_zmtp.specs.Lending.{bodies_in, given, EndsWith}
 use Rattle.zre_zmtp.specs.Stream.{Want, Before}
 use Rattle.zre_zmtp.specs.Shown.{before_of, left_of, Waits, Advances, header_fault, frame_item, frame_after}
-use Rattle.zre_zmtp.proofs.Framed.{IsHeader, is_header, is_framed, left-nothing, left-partial, fine-from_waits, waits-body}
-use Rattle.zre_zmtp.proofs.Fronts.{in_traffic, not_greeting, last_after, last_item, frame_of, traffic_fine}
-use Rattle.zre_zmtp.proofs.Turning.{turn_waits, frame_taken}
+use Rattle.zre_zmtp.proofs.FrameFaults.{IsHeader, is_header, is_framed, left-nothing, left-partial, fine-from_waits, waits-body}
+use Rattle.zre_zmtp.proofs.FrontsOfPieces.{in_traffic, not_greeting, last_after, last_item, frame_of, traffic_fine}
+use Rattle.zre_zmtp.proofs.TurnsOfReaders.{turn_waits, frame_taken}
 
 pub headed : (p : Progress) (part : Partial) (h : Header) → part ≡ p.partial → p.partial.header ≡ Some h → IsHeader h part.head
 headed p part h was known = is_header h part.head (sym part.known ∙ ap (λ (x : Partial). x.header) was ∙ known) part.within

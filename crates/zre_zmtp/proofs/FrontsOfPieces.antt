@@ -16,10 +16,10 @@ use Rattle.zre_zmtp.specs.Front.{BeginsWith, Rests, passed, item_of, bodies_of, 
 use Rattle.zre_zmtp.specs.Reading.{Reading, Reads, Adds}
 use Rattle.zre_zmtp.specs.Shown.{header_fault, frame_item, frame_after, Advances}
 use Rattle.zre_zmtp.specs.Stream.{Want, Kind, Before, flags_fault, size_fault}
-use Rattle.zre_zmtp.proofs.Feeding.{fed}
-use Rattle.zre_zmtp.proofs.Framed.{HeadOf, head_of, IsHeader, is_header, is_framed, neither}
-use Rattle.zre_zmtp.proofs.Pieces.{adds-more}
-use Rattle.zre_zmtp.proofs.Turning.{frame_taken}
+use Rattle.zre_zmtp.proofs.ReadersFollowStreams.{fed}
+use Rattle.zre_zmtp.proofs.FrameFaults.{HeadOf, head_of, IsHeader, is_header, is_framed, neither}
+use Rattle.zre_zmtp.proofs.ItemsOfTwoPieces.{adds-more}
+use Rattle.zre_zmtp.proofs.TurnsOfReaders.{frame_taken}
 
 -- in traffic, with these bodies
 abbrev pub in_traffic : ℕ → List (List ℕ) → ℕ → Before

@@ -9,7 +9,7 @@ use Rattle.std.proofs.lemmas.List.Elements.{recursion_from_All}
 use Rattle.zre_values.specs.Framing.{frame, frames, FitsFrame}
 use Rattle.zre_values.proofs.Quotes.{heads}
 use Rattle.zre_msg.specs.Spelling.{spell, octets, HasOctets, Means}
-use Rattle.zre_msg.proofs.Meaning.{Means-one}
+use Rattle.zre_msg.proofs.MeansIsRead.{Means-one}
 
 split : (xs ys a b : List ℕ) → length xs ≡ length ys → xs ++ a ≡ ys ++ b → (xs ≡ ys) × (a ≡ b)
 split xs ys a b len e = (

@@ -8,7 +8,7 @@ use Rattle.zre_zmtp.specs.declared.header.Header.{Header}
 use Rattle.zre_zmtp.specs.Frame.{flags, size, has_header, header_of}
 use Rattle.zre_zmtp.specs.Stream.{Before, once, flags_fault, size_fault}
 use Rattle.zre_zmtp.specs.Shown.{header_fault}
-use Rattle.zre_zmtp.proofs.Framed.{no_header}
+use Rattle.zre_zmtp.proofs.FrameFaults.{no_header}
 
 -- what is told, by whether the flags octet and all of the header are there, and by what is wrong with each
 abbrev told : Bool → Bool → Option ZmtpWhy → Option ZmtpWhy → Option ZmtpWhy

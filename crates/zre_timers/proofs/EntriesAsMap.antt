@@ -9,7 +9,7 @@ use Rattle.std.specs.Option.{option_map_or}
 use Rattle.std.specs.Ordering.{nat_cmp, eq_by_cmp}
 use Rattle.zre_values.specs.Keys.{IsRisingListOf}
 use Rattle.zre_timers.specs.Moments.{Moments}
-use Rattle.zre_timers.proofs.Pairs.{MapUpdates}
+use Rattle.zre_timers.proofs.PairsInBothSets.{MapUpdates}
 
 found : (es : List (ℕ × ℕ)) (key : ℕ) → map.find nat_cmp key es ≡ lookup (is_at (nat_cmp key)) es
 found [] key = refl

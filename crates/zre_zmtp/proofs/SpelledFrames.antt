@@ -17,7 +17,7 @@ use Rattle.zre_zmtp.specs.declared.item.What.TheVariants.{Message}
 use Rattle.zre_zmtp.specs.declared.expected.Expected.TheVariants as expect
 use Rattle.zre_zmtp.specs.Stream.{Want, Before, once, flags_fault, size_fault, body_fault, frame_why, part_len, item}
 use Rattle.zre_zmtp.specs.Run.{with_item, after, run_all}
-use Rattle.zre_zmtp.proofs.KnownStays.{IsWhole, is_whole-from, IsWhole-more, frame_len-more}
+use Rattle.zre_zmtp.proofs.KnownHeadersStay.{IsWhole, is_whole-from, IsWhole-more, frame_len-more}
 use Rattle.zre_zmtp.proofs.FaultsStay.{part_len-from, frame_why-whole}
 use Rattle.zre_zmtp.proofs.WholeFrames.{run_all-some}
 

@@ -10,9 +10,9 @@ use Rattle.zre_zmtp.specs.Run.{Found, run_all}
 use Rattle.zre_zmtp.specs.Shown.{Waits, Advances}
 use Rattle.zre_zmtp.specs.Reading.{Reading, Reads, Refuses, Adds, IsOver, new_items}
 use Rattle.zre_zmtp.proofs.FaultsStay.{fault_of-stays}
-use Rattle.zre_zmtp.proofs.Cuts.{cut_on, cut-none, cut-ends, split-more, run-finds, Finds}
+use Rattle.zre_zmtp.proofs.OctetsCutIntoParts.{cut_on, cut-none, cut-ends, split-more, run-finds, Finds}
 use Rattle.zre_zmtp.proofs.WholeFrames.{part-fault}
-use Rattle.zre_zmtp.proofs.Turning.{waits_from}
+use Rattle.zre_zmtp.proofs.TurnsOfReaders.{waits_from}
 
 -- ---- a reader of no octets
 

@@ -7,7 +7,7 @@ use Rattle.zre_zmtp.specs.declared.fault.FeedFault.{FeedFault}
 use Rattle.zre_zmtp.specs.declared.fault.FeedFault.TheVariants.{Zmtp, OutOfMemory}
 use Rattle.zre_zmtp.specs.Stream.{Want, Kind, items, fault}
 use Rattle.zre_zmtp.specs.Reading.{Reading, Reads, Refuses, Adds, IsOver, new_items}
-use Rattle.zre_zmtp.proofs.Feeding.{extends, is_over}
+use Rattle.zre_zmtp.proofs.ReadersFollowStreams.{extends, is_over}
 
 -- ---- lists of lists
 

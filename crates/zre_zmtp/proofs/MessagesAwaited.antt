@@ -8,11 +8,11 @@ use Rattle.zre_zmtp.specs.Stream.{Want, Before, Kind, Parts, before, place, open
 use Rattle.zre_zmtp.specs.Run.{Found, with_item, run_all}
 use Rattle.zre_zmtp.specs.Laws.{AwaitsMessage, IsWithinLimits, ReadsMessage}
 use Rattle.zre_zmtp.proofs.FaultsStay.{part_len-bounds}
-use Rattle.zre_zmtp.proofs.Cuts.{cases_Option, cut-none, cut-some}
-use Rattle.zre_zmtp.proofs.Feeding.{Follows, follows, fault-follows}
-use Rattle.zre_zmtp.proofs.Turning.{no_part, no_octets}
-use Rattle.zre_zmtp.proofs.Cuts.{run-none}
-use Rattle.zre_zmtp.proofs.Spelled.{traffic, message_read}
+use Rattle.zre_zmtp.proofs.OctetsCutIntoParts.{cases_Option, cut-none, cut-some}
+use Rattle.zre_zmtp.proofs.ReadersFollowStreams.{Follows, follows, fault-follows}
+use Rattle.zre_zmtp.proofs.TurnsOfReaders.{no_part, no_octets}
+use Rattle.zre_zmtp.proofs.OctetsCutIntoParts.{run-none}
+use Rattle.zre_zmtp.proofs.SpelledFrames.{traffic, message_read}
 
 -- the parts and what is after them are all of the octets
 place-cut : (want : Want) (kind : Kind) (n : ℕ) (parts : Parts) (o : List ℕ) → place (cut want kind n parts o).0 + length (cut want kind n parts o).1 ≡ place parts + length o

@@ -18,11 +18,11 @@ use Rattle.zre_zmtp.specs.Run.{after, Found, with_item, run, run_all}
 use Rattle.zre_zmtp.specs.Reading.{Refuses}
 use Rattle.zre_zmtp.specs.Shown.{Waits, Advances, GoesOn, frame_item, frame_after}
 use Rattle.zre_zmtp.proofs.FaultsStay.{part_len-from, part_len-stays, part_len-bounds, fault_of-stays}
-use Rattle.zre_zmtp.proofs.Cuts.{cases_Option, run-none, run-some, shorter, not_empty}
+use Rattle.zre_zmtp.proofs.OctetsCutIntoParts.{cases_Option, run-none, run-some, shorter, not_empty}
 use Rattle.zre_zmtp.proofs.MoreOfOnePart.{greeting_on}
-use Rattle.zre_zmtp.proofs.Framed.{IsFramed}
+use Rattle.zre_zmtp.proofs.FrameFaults.{IsFramed}
 use Rattle.zre_zmtp.proofs.WholeFrames.{run-enough, run_all-some, part-none, part-fault}
-use Rattle.zre_zmtp.proofs.OctetsKept.{part_none}
+use Rattle.zre_zmtp.proofs.OctetsHeld.{part_none}
 
 -- ---- what is found in more octets
 

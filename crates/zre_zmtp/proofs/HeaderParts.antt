@@ -17,11 +17,11 @@ use Rattle.zre_zmtp.specs.Frame.{flags, size, header_len, has_header, header_of,
 use Rattle.zre_zmtp.specs.Lending.{Brings}
 use Rattle.zre_zmtp.specs.Shown.{before_of, left_of, header_fault, Waits, Advances}
 use Rattle.zre_zmtp.specs.Stream.{Want, Before, once, flags_fault, size_fault}
-use Rattle.zre_zmtp.proofs.Crossings.{Comes}
-use Rattle.zre_zmtp.proofs.Framed.{header_low, no_header, left-frame, waits-no_header, waits-header}
-use Rattle.zre_zmtp.proofs.Fronts.{in_traffic}
-use Rattle.zre_zmtp.proofs.Turning.{turn_waits}
-use Rattle.zre_zmtp.proofs.Unfinished.{in_frames}
+use Rattle.zre_zmtp.proofs.PiecesAcrossFrames.{Comes}
+use Rattle.zre_zmtp.proofs.FrameFaults.{header_low, no_header, left-frame, waits-no_header, waits-header}
+use Rattle.zre_zmtp.proofs.FrontsOfPieces.{in_traffic}
+use Rattle.zre_zmtp.proofs.TurnsOfReaders.{turn_waits}
+use Rattle.zre_zmtp.proofs.UnfinishedFrames.{in_frames}
 
 -- a part of a header has no more octets than it
 pub short_within : (o : List ℕ) → header_of o ≡ None → length o ≤ header_len o

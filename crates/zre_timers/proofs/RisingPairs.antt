@@ -16,7 +16,7 @@ use Rattle.std.proofs.lemmas.List.Sorted.{list_any-IsPermutation, IsNonDecreasin
 use Rattle.std.proofs.lemmas.Map.Keys.{IsDistinct-from_sorted, IsDistinct-IsPermutation, IsStrictlyIncreasing-from_distinct}
 use Rattle.zre_values.specs.Keys.{IsRisingListOf}
 use Rattle.zre_timers.specs.Agreement.{Agree, by_moment}
-use Rattle.zre_timers.proofs.Pairs.{same_pair, is_this}
+use Rattle.zre_timers.proofs.PairsInBothSets.{same_pair, is_this}
 
 -- ---- the range, pair by pair
 
