@@ -1,4 +1,4 @@
-pub mod Growing
-pub mod Hearing
-pub mod InOrder
-pub mod Utterances
+pub mod TalkGrows
+pub mod ConnAfterOctets
+pub mod ArrivalsInOrder
+pub mod ArrivalsOfUtterances

@@ -21,7 +21,7 @@ use Rattle.zre_mailbox.specs.declared.phase.Phase.TheVariants.{Live, Spent, Igno
 use Rattle.zre_mailbox.specs.Talk.{Arrived, arrival_of, arrivals, arrivals_in}
 use Rattle.zre_mailbox.specs.Talk.{fault_in, fault_said, new_arrivals, completed}
 
--- ---- whom it shook hands with
+-- ---- whom READY introduced
 
 -- the peer that an arrival introduces
 abbrev pub introduced : Arrival → Option PeerId
@@ -37,12 +37,12 @@ identity_in (a ∷ rest) = option_or (introduced a) (identity_in rest)
 
 -- ---- what contracts see of a connection
 
--- what it does with octets, and whom it shook hands with
+-- what it does with octets, and whom READY introduced
 pub record ConnHearing : Type 0 where
   pub phase : Phase
   pub identity : Option PeerId
 
--- what a reader keeps after octets without a fault
+-- what a reader holds after octets without a fault
 abbrev pub reading : Want → Kind → List ℕ → Reading
 reading want kind o =
     record { before = before kind (split want kind o).0; left = (split want kind o).1; spent = false; wanted = want }
@@ -81,13 +81,13 @@ is_spent_in Ignored = false
 abbrev pub is_spent : ConnHearing → Bool
 is_spent h = is_spent_in h.phase
 
--- how many octets are kept, by its phase
+-- how many octets are held, by its phase
 abbrev pub kept_in : Phase → ℕ
 kept_in (Live r) = kept r
 kept_in Spent = 0
 kept_in Ignored = 0
 
--- how many octets are kept
+-- how many octets are held
 abbrev pub kept_of : ConnHearing → ℕ
 kept_of h = kept_in h.phase
 
@@ -115,7 +115,7 @@ HearsOn result was now piece out out' =
     (own : PeerId) (o : List ℕ) → was ≡ conn_after own o →
     OnOk result ((fault_in own (o ++ piece) ≡ None) × Hears own o piece now out out')
 
--- It was refused: the refusal names the fault that is there, and what comes before it arrived.
+-- The piece was refused: the refusal names the fault that is there, and what comes before it arrived.
 abbrev pub RefusesToHear : Result (Unit {0}) FeedFault → ConnHearing → ConnHearing → List ℕ → List Arrival
     → List Arrival → Type 0
 RefusesToHear result was now piece out out' =
@@ -124,13 +124,13 @@ RefusesToHear result was now piece out out' =
 
 -- ---- a piece that is taken where it lies
 
--- what arrives with it
+-- what arrives with a piece that is taken
 abbrev pub lent_arrivals : Came → List Arrival
 lent_arrivals (came.Message l) = option_to_list (arrival_of (says.Message (bodies_in l)))
 lent_arrivals came.Part = []
 lent_arrivals came.Other = []
 
--- After the octets o it was read, and has no fault; or nothing changed.
+-- After the octets o the piece was read, and has no fault; or nothing changed.
 abbrev pub HearsLent : Came → PeerId → List ℕ → List ℕ → ConnHearing → ConnHearing → Type 0
 HearsLent (came.Message l) own o piece was now =
     (fault_in own (o ++ piece) ≡ None) × Hears own o piece now [] (lent_arrivals (came.Message l))

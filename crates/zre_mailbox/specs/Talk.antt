@@ -30,7 +30,7 @@ arrival_of (says.Ready size socket identity) = option_map (λ p. Shaken p) (opti
 arrival_of (says.Command size name body) = option_map (λ t. Ping t) (context_of name (rest body))
 arrival_of (says.Message frames) = option_map (λ m. Message m) (result_ok (read_frames frames))
 
--- the same of each item
+-- what arrives with items, in their order
 abbrev pub arrivals_in : List Item → List Arrival
 arrivals_in items = filter_map (λ item. arrival_of item.what) items
 
@@ -38,7 +38,7 @@ arrivals_in items = filter_map (λ item. arrival_of item.what) items
 abbrev pub arrivals : PeerId → List ℕ → List Arrival
 arrivals own o = arrivals_in (items (Dealer own) Whole o)
 
--- its first fault: one of RFC 23, or READY of another
+-- the first fault of the stream: one of RFC 23, or READY of another
 abbrev pub fault_in : PeerId → List ℕ → Option ZmtpFault
 fault_in own o = fault (Dealer own) Whole o
 
@@ -55,7 +55,7 @@ fault_said f = option_to_list (option_map (λ x. Fault x) f)
 abbrev pub talk : PeerId → List ℕ → List Said
 talk own o = map (λ a. Arrived a) (arrivals own o) ++ fault_said (fault_in own o)
 
--- what more octets complete of it
+-- what more octets complete of all that is said
 abbrev pub completed : PeerId → List ℕ → List ℕ → List Said
 completed own o more = drop (length (talk own o)) (talk own (o ++ more))
 

@@ -16,13 +16,13 @@ pub data Utterance : Type 0 where
   Ready : Utterance
   Says : (m : Message) → Utterance
 
--- its octets, where it is the node with this identity that says it
+-- the octets of an utterance of the node with this identity
 abbrev pub octets_by : PeerId → Utterance → List ℕ
 octets_by id Greeting = own_greeting
 octets_by id Ready = ready_frame socket.Dealer (Some id)
 octets_by id (Says m) = octets m
 
--- those of all that it says
+-- the octets of all utterances of the node, in their order
 abbrev pub stream : PeerId → List Utterance → List ℕ
 stream id [] = []
 stream id (u ∷ us) = octets_by id u ++ stream id us
@@ -58,7 +58,7 @@ heard_after own id (Ready ∷ us) =
     else arrival.Shaken id ∷ map (λ m. arrival.Message m) (messages (up_to_greeting us))
 heard_after own id _ = []
 
--- The same from the beginning: the greeting is first.
+-- What arrives from the beginning of the stream on: the greeting is first.
 abbrev pub heard : PeerId → PeerId → List Utterance → List Arrival
 heard own id (Greeting ∷ us) = arrival.Greeted ∷ heard_after own id us
 heard own id _ = []

@@ -8,7 +8,8 @@ use zre_values::{List, Octets, PeerId};
 pub enum Arrival {
     /// The greeting.
     Greeted,
-    /// READY of a DEALER, with the peer of its identity. It isn't the node itself.
+    /// READY was received, of a DEALER whose identity is 01 and the UUID of this peer (RFC 36). The peer isn't the node
+    /// itself.
     Shaken(PeerId),
     /// PING of ZMTP 3.1 (RFC 37), with its context: a PONG with the same context answers it.
     Ping(Octets),

@@ -58,8 +58,8 @@ impl Conn {
 
     /// Reads one more piece: what becomes whole with it is appended, and messages outside the grammar and commands
     /// other than PING are left out. A fault is told after the arrivals before it, and READY of another socket or
-    /// without a good identity is one. After a refusal the connection is spent, and keeps nothing; after OutOfMemory
-    /// what was appended is left open.
+    /// without a good identity is one. After a refusal the connection is spent, and holds no octets; after
+    /// OutOfMemory any of the arrivals may have been appended.
     pub fn feed(&mut self, piece: &[u8], out: &mut Arrivals) -> Fed
         // What a caller knows.
         requires heard { is_ignored self.old ≡ false }
@@ -92,7 +92,8 @@ impl Conn {
         self.feed_counted(piece, out, &mut steps)
     }
 
-    /// Reads a piece as `feed` does, and counts looks as a reader counts them.
+    /// Reads one more piece as [`feed`](Conn::feed) does, and counts in `steps` how many octets are looked at: at most
+    /// as many as the piece has.
     pub fn feed_counted<L: Ledger>(
         &mut self,
         piece: &[u8],
@@ -123,8 +124,9 @@ impl Conn {
         }
     }
 
-    /// Reads a piece as `feed` does, and gives the items that become whole in place of what arrives with them, which
-    /// [`arrival_of`](crate::arrival_of) tells of each. A list that is cleared serves again and again.
+    /// Reads one more piece, and appends the items that become whole with it to an empty list. What arrives with an
+    /// item is what [`arrival_of`](crate::arrival_of) gives. The list can be cleared and used again. An error comes
+    /// where [`feed`](Conn::feed) gives one.
     pub fn feed_items<L: Ledger>(
         &mut self,
         piece: &[u8],
@@ -165,8 +167,8 @@ impl Conn {
         }
     }
 
-    /// Takes a piece that ends a message of one or two frames, or is a part of a frame, with no item made: what `feed`
-    /// does with it, but the message is lent. Other pieces change nothing.
+    /// Reads a piece that ends a message of one or two frames, and lends the message in place of an item; or a piece
+    /// that is a part of one frame. Any other piece gives `Came::Other` and changes nothing.
     #[inline]
     pub fn take<'a, L: Ledger>(
         &mut self,
@@ -191,14 +193,14 @@ impl Conn {
         reader.take(piece, bodies, steps)
     }
 
-    // A piece was refused, and nothing is kept.
+    // Drops the reader and its octets.
     fn give_up(&mut self)
         ensures { self.new ≡ record self.old { phase = SpentPhase } }
     {
         self.phase = Phase::Spent;
     }
 
-    /// From now on nothing that comes is looked at. All octets are given up; the identity stays.
+    /// Ignores all that comes from now on, and drops the octets that are held. The identity stays.
     pub fn ignore(&mut self)
         ensures ignored { self.new ≡ ignoring self.old }
         ensures empty { kept_of self.new ≡ 0 }
@@ -206,10 +208,10 @@ impl Conn {
         self.phase = Phase::Ignored;
     }
 
-    /// How many octets are kept: those of the bodies of an unfinished message, and those of an unfinished greeting or
+    /// How many octets are held: those of the bodies of an unfinished message, and those of an unfinished greeting or
     /// frame.
     pub fn kept(&self) -> u64
-        ensures kept { (own : PeerIdValue) (o : List ℕ) → self.now ≡ conn_after own o →
+        ensures held { (own : PeerIdValue) (o : List ℕ) → self.now ≡ conn_after own o →
             (result ≡ kept_of self.now) × (result ≤ MESSAGE_OCTETS + 9 + COMMAND_OCTETS) }
         ensures ignored { is_ignored self.now ≡ true → result ≡ 0 }
     {
@@ -219,7 +221,7 @@ impl Conn {
         }
     }
 
-    /// Whom READY introduced, if it came.
+    /// The peer of the identity in READY, if READY was received.
     pub fn identity(&self) -> Option<PeerId>
         ensures { result ≡ self.now.identity }
     {

@@ -6,9 +6,9 @@ use zre_zmtp::Reader;
 pub enum Phase {
     /// They are read.
     Live(Reader),
-    /// A piece was refused, and nothing is kept.
+    /// A piece was refused, and no octets are held.
     Spent,
-    /// Nothing that comes is looked at, and nothing is kept.
+    /// Octets that come are ignored, and none are held.
     Ignored,
 }
 

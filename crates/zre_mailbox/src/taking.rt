@@ -54,14 +54,14 @@ pub fn arrival_of(alloc: Global, what: &What) -> Result<Option<Arrival>, OutOfMe
 {
     match what {
         What::Greeting { .. } => Ok(Some(Arrival::Greeted)),
-        What::Ready { .. } => Ok(shaken_by(what).map(Arrival::Shaken)),
+        What::Ready { .. } => Ok(introduced_by(what).map(Arrival::Shaken)),
         What::Command { .. } => ping_of(alloc, what),
         What::Message(frames) => message_of(alloc, frames),
     }
 }
 
-// Whom READY introduces.
-fn shaken_by(what: &What) -> Option<PeerId>
+// The peer that READY introduces, if the item is READY.
+fn introduced_by(what: &What) -> Option<PeerId>
     ensures { result ≡ option_and_then introduced (arrival_of what.now) }
 {
     match what {
@@ -74,11 +74,11 @@ fn shaken_by(what: &What) -> Option<PeerId>
 }
 
 // Whom the first READY among the items introduces.
-fn shaken_in(items: &[Item]) -> Option<PeerId>
+fn introduced_in(items: &[Item]) -> Option<PeerId>
     ensures { result ≡ identity_in (arrivals_in items.now) }
 {
     for item in items {
-        if let Some(peer) = shaken_by(&item.what) {
+        if let Some(peer) = introduced_by(&item.what) {
             return Some(peer);
         }
     }
@@ -91,7 +91,7 @@ pub(crate) fn known_after(known: Option<PeerId>, items: &[Item]) -> Option<PeerI
 {
     match known {
         Some(peer) => Some(peer),
-        None => shaken_in(items),
+        None => introduced_in(items),
     }
 }
 

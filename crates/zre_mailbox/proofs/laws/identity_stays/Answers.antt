@@ -1,5 +1,5 @@
-use Rattle.zre_mailbox.proofs.Hearing.{identity_kept}
+use Rattle.zre_mailbox.proofs.ConnAfterOctets.{introduced_stays}
 use Rattle.zre_mailbox.proofs.laws.identity_stays.Goals as goal
 
 pub returns : goal.returns
-returns c = identity_kept
+returns c = introduced_stays

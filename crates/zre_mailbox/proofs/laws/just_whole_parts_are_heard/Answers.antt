@@ -1,4 +1,4 @@
-use Rattle.zre_mailbox.proofs.Utterances.{are_heard}
+use Rattle.zre_mailbox.proofs.ArrivalsOfUtterances.{are_heard}
 use Rattle.zre_mailbox.proofs.laws.just_whole_parts_are_heard.Goals as goal
 
 pub returns : goal.returns

@@ -1,4 +1,4 @@
-use Rattle.zre_mailbox.proofs.Growing.{nothing_said}
+use Rattle.zre_mailbox.proofs.TalkGrows.{nothing_said}
 use Rattle.zre_mailbox.proofs.laws.nothing_said.Goals as goal
 
 pub returns : goal.returns

@@ -1,4 +1,4 @@
-use Rattle.zre_mailbox.proofs.Growing.{goes}
+use Rattle.zre_mailbox.proofs.TalkGrows.{goes}
 use Rattle.zre_mailbox.proofs.laws.talk_grows.Goals as goal
 
 pub returns : goal.returns

@@ -2,7 +2,7 @@ use Rattle.std.proofs.Common.{◌++◌, take, ap, ◌∙◌, List, append_assoc}
 use Rattle.std.specs.Prelude.{option_to_list}
 use Rattle.zre_mailbox.specs.declared.arrival.Arrival.{Arrival}
 use Rattle.zre_mailbox.specs.Talk.{arrival_of, arrivals_in}
-use Rattle.zre_mailbox.proofs.Hearing.{arrives_next}
+use Rattle.zre_mailbox.proofs.ConnAfterOctets.{arrives_next}
 use Rattle.zre_mailbox.proofs.taking.take_items.Goals as goal
 
 pub loop-item-preserved : goal.loop-item-preserved

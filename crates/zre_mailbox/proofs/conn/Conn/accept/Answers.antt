@@ -1,4 +1,4 @@
-use Rattle.zre_mailbox.proofs.Hearing.{accepted}
+use Rattle.zre_mailbox.proofs.ConnAfterOctets.{accepted}
 use Rattle.zre_mailbox.proofs.conn.Conn.accept.Goals as goal
 
 pub returns : goal.returns

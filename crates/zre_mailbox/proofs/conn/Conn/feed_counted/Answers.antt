@@ -3,7 +3,7 @@ use Rattle.std.proofs.lemmas.Result.{IfErr-weaker}
 use Rattle.zre_values.proofs.Answered.{on_ok}
 use Rattle.zre_zmtp.specs.declared.item.Item.{Item}
 use Rattle.zre_mailbox.specs.Talk.{arrivals_in}
-use Rattle.zre_mailbox.proofs.Hearing.{heard_onto, refused_onto, refused_looks}
+use Rattle.zre_mailbox.proofs.ConnAfterOctets.{heard_onto, refused_onto, refused_looks}
 use Rattle.zre_mailbox.proofs.conn.Conn.feed_counted.Goals as goal
 
 pub returns-in-Ok-clause-ok : goal.returns-in-Ok-clause-ok

@@ -7,7 +7,7 @@ use Rattle.zre_zmtp.specs.declared.want.Want.TheVariants.{Dealer}
 use Rattle.zre_mailbox.specs.Talk.{arrivals_in, fault_in}
 use Rattle.zre_mailbox.specs.Conn.{ConnHearing, Brings, identity_in}
 use Rattle.zre_mailbox.specs.declared.phase.Phase.TheVariants.{Spent}
-use Rattle.zre_mailbox.proofs.Hearing.{brings_refused, live_reads, heard, refused}
+use Rattle.zre_mailbox.proofs.ConnAfterOctets.{brings_refused, live_reads, heard, refused}
 use Rattle.zre_mailbox.proofs.conn.Conn.feed_items.Goals as goal
 
 pub returns-in-Ok-clause-ok : goal.returns-in-Ok-clause-ok

@@ -2,7 +2,7 @@ use Rattle.std.proofs.Common.{◌≡◌, refl, sym, ap, ◌∙◌}
 use Rattle.std.proofs.lemmas.Result.{IfOk-weaker}
 use Rattle.zre_mailbox.specs.Conn.{ConnHearing}
 use Rattle.zre_mailbox.specs.declared.phase.Phase.TheVariants.{Live}
-use Rattle.zre_mailbox.proofs.Hearing.{hears_lent, live_hearing, unlent}
+use Rattle.zre_mailbox.proofs.ConnAfterOctets.{hears_lent, live_hearing, unlent}
 use Rattle.zre_mailbox.proofs.conn.Conn.take.Goals as goal
 
 pub returns-clause-taken : goal.returns-clause-taken

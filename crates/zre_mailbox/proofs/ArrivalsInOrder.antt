@@ -34,7 +34,7 @@ use Rattle.zre_zmtp.proofs.OctetsKept.{row-off}
 use Rattle.zre_mailbox.specs.declared.arrival.Arrival.{Arrival}
 use Rattle.zre_mailbox.specs.declared.arrival.Arrival.TheVariants.{Greeted, Shaken, Ping, Message}
 use Rattle.zre_mailbox.specs.Talk.{peer_of, arrivals_in, arrivals, AreTraffic, Introduced, IsInOrder, is_ready as is_ready_item, has_ready}
-use Rattle.zre_mailbox.proofs.Growing.{arrivals_in-append}
+use Rattle.zre_mailbox.proofs.TalkGrows.{arrivals_in-append}
 
 -- ---- READY of another
 

@@ -43,7 +43,7 @@ use Rattle.zre_mailbox.specs.declared.arrival.Arrival.{Arrival}
 use Rattle.zre_mailbox.specs.declared.arrival.Arrival.TheVariants as arrival
 use Rattle.zre_mailbox.specs.Talk.{arrivals, arrivals_in, peer_of}
 use Rattle.zre_mailbox.specs.Utterances.{Utterance, Greeting, Ready, Says, stream, messages, IsReadable, IsHearable, up_to_greeting, heard_after, heard}
-use Rattle.zre_mailbox.proofs.Growing.{arrivals_in-append}
+use Rattle.zre_mailbox.proofs.TalkGrows.{arrivals_in-append}
 
 -- ---- a part with a fault
 

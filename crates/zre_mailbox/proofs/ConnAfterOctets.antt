@@ -27,7 +27,7 @@ use Rattle.zre_mailbox.specs.declared.phase.Phase.{Phase}
 use Rattle.zre_mailbox.specs.declared.phase.Phase.TheVariants.{Live, Spent}
 use Rattle.zre_mailbox.specs.Talk.{arrival_of, arrivals_in, arrivals, fault_in, new_arrivals}
 use Rattle.zre_mailbox.specs.Conn.{introduced, identity_in, ConnHearing, reading, phase_by, conn_after, Brings, Hears, HearsLent, lent_arrivals}
-use Rattle.zre_mailbox.proofs.Growing.{arrivals_in-append, new_arrivals-items, arrivals_grow, goes}
+use Rattle.zre_mailbox.proofs.TalkGrows.{arrivals_in-append, new_arrivals-items, arrivals_grow, goes}
 
 -- ---- whom arrivals introduce
 
@@ -39,8 +39,8 @@ pub identity_in-append : (xs ys : List Arrival) → identity_in (xs ++ ys) ≡ o
 identity_in-append [] ys = refl
 identity_in-append (x ∷ xs) ys = ap (λ p. option_or (introduced x) p) (identity_in-append xs ys) ∙ sym (option_or-assoc (introduced x) (identity_in xs) (identity_in ys))
 
-pub identity_kept : (own : PeerId) (o more : List ℕ) (peer : PeerId) → identity_in (arrivals own o) ≡ Some peer → identity_in (arrivals own (o ++ more)) ≡ Some peer
-identity_kept own o more peer e =
+pub introduced_stays : (own : PeerId) (o more : List ℕ) (peer : PeerId) → identity_in (arrivals own o) ≡ Some peer → identity_in (arrivals own (o ++ more)) ≡ Some peer
+introduced_stays own o more peer e =
     ap identity_in (arrivals_grow own o more) ∙ identity_in-append (arrivals own o) (new_arrivals own o more)
     ∙ ap (λ p. option_or p (identity_in (new_arrivals own o more))) e
 
@@ -63,9 +63,9 @@ identity_in-cons None rest = refl
 identity_in-cons (Some x) rest = refl
 
 -- whom an item and those after it introduce
-pub shaken_next : (items : List Item) (i : ℕ) (item : Item) (peer : Option PeerId) → i < length items → item ≡ get_or items i item → peer ≡ option_and_then introduced (arrival_of item.what)
+pub introduced_next : (items : List Item) (i : ℕ) (item : Item) (peer : Option PeerId) → i < length items → item ≡ get_or items i item → peer ≡ option_and_then introduced (arrival_of item.what)
     → identity_in (arrivals_in (drop i items)) ≡ option_or peer (identity_in (arrivals_in (drop (i + 1) items)))
-shaken_next items i item peer lt is by =
+introduced_next items i item peer lt is by =
     at_drop_more (λ (l : List Item). identity_in (arrivals_in l)) items i item lt
     ∙ ap (λ (x : Item). identity_in (arrivals_in (x ∷ drop (i + 1) items))) (sym is)
     ∙ identity_in-cons (arrival_of item.what) (arrivals_in (drop (i + 1) items))

@@ -1,7 +1,7 @@
 use Rattle.std.proofs.Common.{◌≡◌, drop}
 use Rattle.zre_mailbox.specs.Talk.{arrivals_in}
 use Rattle.zre_mailbox.specs.Conn.{identity_in}
-use Rattle.zre_mailbox.proofs.taking.shaken_in.Given as goal
+use Rattle.zre_mailbox.proofs.taking.introduced_in.Given as goal
 
 -- those so far introduce nobody
 abbrev pub invariant-loop-item : goal.invariant-loop-item
