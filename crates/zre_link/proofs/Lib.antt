@@ -1,8 +1,8 @@
-pub mod RepliesKept
-pub mod Answering
-pub mod Bodies
-pub mod Fronts
-pub mod Lasts
-pub mod Numbered
-pub mod Removing
-pub mod Replied
+pub mod HeardReplies
+pub mod PongsQueued
+pub mod BodiesOfFrames
+pub mod SendableFronts
+pub mod LastOctets
+pub mod AppendedMembers
+pub mod RemovedOctets
+pub mod AnsweredReplies

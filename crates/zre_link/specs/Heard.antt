@@ -1,4 +1,4 @@
--- What comes back on a link, and what is kept of it.
+-- What comes back on a link, and what is held of it.
 use Rattle.std.specs.Prelude.{ℕ, zero, suc, false, List, ◌++◌, length, drop, Option, Some, None}
 use Rattle.zre_zmtp.specs.declared.fault.ZmtpFault.{ZmtpFault}
 use Rattle.zre_zmtp.specs.declared.fault.FeedFault.TheVariants.{Zmtp}
@@ -29,7 +29,7 @@ pings o = contexts_in (items Router Whole o)
 abbrev pub new_pings : List ℕ → List ℕ → List (List ℕ)
 new_pings o more = drop (length (pings o)) (pings (o ++ more))
 
--- ---- what is kept
+-- ---- what is held
 
 -- what a reader keeps after replies without a fault
 abbrev pub reading : List ℕ → Reading
@@ -55,12 +55,12 @@ pub record Heard : Type 0 where
 abbrev pub heard_after : List ℕ → Heard
 heard_after o = record { awaits = awaited o; hearing = hearing_by (reply_fault o) (reading o) }
 
--- how many octets are kept, by what is done with octets
+-- how many octets are held, by what is done with octets
 abbrev pub kept_in : Hearing → ℕ
 kept_in (Reads r) = kept r
 kept_in (Refused f) = 0
 
--- how many octets are kept
+-- how many octets are held
 abbrev pub kept_of : Heard → ℕ
 kept_of h = kept_in h.hearing
 

@@ -68,7 +68,7 @@ front_of own line linked o n = take (gate_of own line linked o - n) (drop n (tex
 abbrev pub taken_by : PeerId → List Member → Bool → List ℕ → ℕ → ℕ → ℕ
 taken_by own line linked o n count = n + min count (gate_of own line linked o - n)
 
--- how many have not
+-- how many octets have not gone out
 abbrev pub unsent_of : PeerId → List Member → ℕ → ℕ
 unsent_of own line n = length (text_of own line) - n
 
@@ -101,7 +101,7 @@ Puts result was now body =
     OnOk result ((unsent_of own line n + size_of line body ≤ UNSENT_OCTETS)
     × (now ≡ link_after own (line ++ Says body ∷ []) linked o n))
 
--- It was not, and the refusal says why.
+-- The body was refused, and the refusal says why.
 abbrev pub RefusesToPut : Result (Unit {0}) PushFault → Sending → Body → Type 0
 RefusesToPut result was body =
     (own : PeerId) (line : List Member) (linked : Bool) (o : List ℕ) (n : ℕ) →
@@ -134,11 +134,11 @@ abbrev pub link_answering : PeerId → List Member → Bool → List ℕ → ℕ
 link_answering own line linked o n piece =
     link_after own (answering own line n (new_pings o piece)) linked (o ++ piece) n
 
--- the PONG that has no room among those that answer one more piece
+-- the first PONG among those that answer one more piece with which more octets would wait than may
 abbrev pub slow_in : PeerId → List Member → List ℕ → ℕ → List ℕ → Option (ℕ × ℕ)
 slow_in own line o n piece = slow_at (unsent_of own line n) (new_pings o piece)
 
--- why a piece of replies is refused: Slow tells both numbers; a fault is told where each PONG had room; then P holds;
+-- why a piece of replies is refused: Slow tells both numbers; a fault is told where no PONG was slow; then P holds;
 -- of OutOfMemory nothing is said
 abbrev pub RefusesReply : ReplyFault → Option (ℕ × ℕ) → Option ZmtpFault → Type 0 → Type 0
 RefusesReply (answer.Slow unsent size) slow fault P = (slow ≡ Some (unsent, size)) × P
@@ -153,7 +153,7 @@ Answers result was now piece =
     OnOk result ((slow_in own line o n piece ≡ None) × (reply_fault (o ++ piece) ≡ None)
     × (now ≡ link_answering own line linked o n piece))
 
--- It was refused: the refusal says why, and the PINGs before that are answered.
+-- A piece of replies was refused: the refusal says why, and the PINGs before that are answered.
 abbrev pub RefusesToAnswer : Result (Unit {0}) ReplyFault → Sending → Sending → List ℕ → Type 0
 RefusesToAnswer result was now piece =
     (own : PeerId) (line : List Member) (linked : Bool) (o : List ℕ) (n : ℕ) →

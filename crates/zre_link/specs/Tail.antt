@@ -23,7 +23,7 @@ bodies_in (suc most) (flags ∷ o) =
 abbrev pub bodies_of : List ℕ → List (List ℕ)
 bodies_of o = bodies_in (length o) o
 
--- the octets that are kept of a tail
+-- the octets that are held of a tail
 abbrev pub spelled_octets : Spelled → List ℕ
 spelled_octets (Copied o) = o
 spelled_octets (Shared o) = o

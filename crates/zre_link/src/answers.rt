@@ -47,14 +47,15 @@ fn answer(
     Ok(())
 }
 
-/// Queues a PONG for each PING among the items, in their order, up to the one that has no room.
+/// Queues a PONG for each PING among the items, in their order, up to the first with which more octets would wait than
+/// may: it gives `Slow`.
 pub fn answer_all(
     alloc: Global,
     queue: &mut Queue,
     written: &mut u64,
     items: &[Item],
 ) -> Result<(), ReplyFault>
-    // PONGs are queued, up to the one without room.
+    // PONGs are queued, up to the first with which more octets would wait than may.
     ensures ok { let ts = answered (length queue.old) (contexts_in items.now) in
         OnOk result ((slow_at (length queue.old) (contexts_in items.now) ≡ None)
         × (queue.new ≡ queue.old ++ flat_map pong_frame ts)

@@ -6,7 +6,7 @@ use zre_zmtp::{FeedFault, Reader};
 pub enum Hearing {
     /// They are read.
     Reads(Reader),
-    /// A piece was refused: the answer stays, and nothing is kept.
+    /// A piece was refused: each further piece is refused with this fault, and no octets are held.
     Refused(FeedFault),
 }
 

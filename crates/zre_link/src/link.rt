@@ -78,7 +78,7 @@ impl Model for Link {
 
 // The greeting and READY of a node with this UUID.
 fn handshake_of(alloc: Global, own: PeerId) -> Result<Queue, OutOfMemory>
-    ensures is { IfOk result (λ queue. queue ≡ handshake Dealer (Some own)) }
+    ensures handshake { IfOk result (λ queue. queue ≡ handshake Dealer (Some own)) }
     ensures count { IfOk result (λ queue. length queue ≡ 124) }
 {
     let mut queue = Queue::new(alloc, &greeting())?;
@@ -137,7 +137,8 @@ impl Link {
         Ok(())
     }
 
-    /// Puts a PING in the same way: what `push` does for it.
+    /// Puts a PING: it goes out in a message with the next number. `Slow` comes where more than 4,194,304 octets would
+    /// wait then.
     pub fn push_ping(&mut self) -> Result<(), PushFault>
         ensures ok { Puts result self.old self.new Ping }
         ensures refused { RefusesToPut result self.old Ping }
@@ -152,7 +153,8 @@ impl Link {
         Ok(())
     }
 
-    /// Puts a SHOUT to this group in the same way: what `push` does for it with the content of the tail.
+    /// Puts a SHOUT to this group with the content of the tail: it goes out in a message with the next number. `Slow`
+    /// comes where more than 4,194,304 octets would wait then.
     pub fn push_shout(&mut self, group: &[u8], tail: &Tail) -> Result<(), PushFault>
         // The group has a spelling.
         requires { FitsString group.now }
@@ -175,7 +177,7 @@ impl Link {
         Ok(())
     }
 
-    /// From now on the link stands. A second call does nothing.
+    /// Says that the connection is established: from now on octets may go out. A second call does nothing.
     pub fn linked(&mut self)
         ensures { (own : PeerIdValue) (line : List Member) (linked : Bool) (o : List ℕ) (n : ℕ) →
             self.old ≡ link_after own line linked o n → self.new ≡ link_after own line true o n }
@@ -183,7 +185,7 @@ impl Link {
         self.linked = true;
     }
 
-    /// Whether the link stands.
+    /// Whether the connection is established.
     pub fn is_linked(&self) -> bool
         ensures { result ≡ self.now.linked }
     {
@@ -193,33 +195,34 @@ impl Link {
     /// Reads one more piece of what comes back, which is the stream of a ROUTER (RFC 23). Each PING that becomes whole
     /// with it is answered by a PONG at the end of what waits; other commands and messages are dropped. `Slow` comes at
     /// the first PONG with which more than 4,194,304 octets would wait: those before it were put, and no fault is
-    /// told. A fault stays: each further piece is refused with it. After OutOfMemory what is kept of the replies, and
-    /// how many PONGs were put, is left open.
+    /// told. A fault stays: each further piece is refused with it. After OutOfMemory any octets of the replies may
+    /// be held, and any of the PONGs may have been put.
     pub fn reply(&mut self, piece: &[u8]) -> Result<(), ReplyFault>
-        // The link stands.
+        // The connection is established.
         requires { self.old.linked ≡ true }
         // What is read, and what is answered.
         ensures ok { Answers result self.old self.new piece.now }
         ensures refused { RefusesToAnswer result self.old self.new piece.now }
-        // What stays.
-        ensures rest { IsOnlyAnswered self.old self.new }
+        // No body was put, and nothing has gone out.
+        ensures only_answered { IsOnlyAnswered self.old self.new }
     {
         self.reply_from::<Brand>(piece, Blank::new(1))
     }
 
-    /// Takes a piece of replies as `reply` does, and counts looks as a reader counts them.
+    /// Reads one more piece of what comes back as [`reply`](Link::reply) does, and counts in `steps` how many octets
+    /// are looked at: at most as many as the piece has.
     pub fn reply_counted<L: Ledger>(
         &mut self,
         piece: &[u8],
         steps: &mut Steps<L>,
     ) -> Result<(), ReplyFault>
-        // The link stands.
+        // The connection is established.
         requires { self.old.linked ≡ true }
         // What is read, and what is answered.
         ensures ok { Answers result self.old self.new piece.now }
         ensures refused { RefusesToAnswer result self.old self.new piece.now }
-        // What stays.
-        ensures rest { IsOnlyAnswered self.old self.new }
+        // No body was put, and nothing has gone out.
+        ensures only_answered { IsOnlyAnswered self.old self.new }
         // How many octets are looked at.
         ensures once { steps.new ≤ steps.old + length piece.now }
         ensures looks { Looks steps.old steps.new (kept_of self.old.replies) (kept_of self.new.replies)
@@ -244,20 +247,20 @@ impl Link {
 
     // `reply_counted` with a counter of its own, for a caller that counts nothing.
     fn reply_from<L: Ledger>(&mut self, piece: &[u8], blank: Blank) -> Result<(), ReplyFault>
-        // A count can begin, and the link stands.
+        // A count can begin, and the connection is established.
         requires blank { IsOpenTo L.name L.parts blank.name blank.parts }
         requires linked { self.old.linked ≡ true }
         // What is read, and what is answered.
         ensures ok { Answers result self.old self.new piece.now }
         ensures refused { RefusesToAnswer result self.old self.new piece.now }
-        // What stays.
-        ensures rest { IsOnlyAnswered self.old self.new }
+        // No body was put, and nothing has gone out.
+        ensures only_answered { IsOnlyAnswered self.old self.new }
     {
         let mut steps = Steps::<L>::new(blank);
         self.reply_counted(piece, &mut steps)
     }
 
-    // Puts a PONG for each PING among the items, up to the one that has no room.
+    // Puts a PONG for each PING among the items, up to the first with which more octets would wait than may.
     fn answer(&mut self, items: &[Item]) -> Result<(), ReplyFault>
         ensures ok { (own : PeerIdValue) (line : List Member) (linked : Bool) (o : List ℕ) (n : ℕ) →
             self.old ≡ link_after own line linked o n →
@@ -267,7 +270,7 @@ impl Link {
             self.old ≡ link_after own line linked o n →
             IfErr result (λ e. RefusesReply e (slow_at (unsent_of own line n) (contexts_in items.now)) None
             (self.new ≡ link_after own (answering own line n (contexts_in items.now)) linked o n)) }
-        ensures rest { (self.new.sent ≡ self.old.sent) × (self.new.taken ≡ self.old.taken)
+        ensures unchanged { (self.new.sent ≡ self.old.sent) × (self.new.taken ≡ self.old.taken)
             × (self.new.linked ≡ self.old.linked) × (self.new.replies ≡ self.old.replies) }
     {
         answer_all(self.alloc, &mut self.queue, &mut self.written, items)
@@ -277,7 +280,7 @@ impl Link {
     pub fn front(&self) -> &[u8]
         ensures front { (own : PeerIdValue) (line : List Member) (linked : Bool) (o : List ℕ) (n : ℕ) →
             self.now ≡ link_after own line linked o n → IsFront (front_of own line linked o n) result.now }
-        ensures some { has_front self.now ≡ true → result.now ≢ [] }
+        ensures not_empty { has_front self.now ≡ true → result.now ≢ [] }
     {
         let part = self.queue.front();
         &part[..self.open().min(part.len())]
@@ -290,7 +293,7 @@ impl Link {
         self.taken < self.gate()
     }
 
-    /// So many octets of the front have gone out, or all of it where it has fewer.
+    /// Removes octets that have gone out: as many as `count`, or all that may go out where they are fewer.
     pub fn took(&mut self, count: u64)
         ensures { (own : PeerIdValue) (line : List Member) (linked : Bool) (o : List ℕ) (n : ℕ) →
             self.old ≡ link_after own line linked o n →
@@ -328,7 +331,7 @@ impl Link {
         self.sent
     }
 
-    /// How many octets of the replies are kept: those of the bodies of an unfinished message, and those of an
+    /// How many octets of the replies are held: those of the bodies of an unfinished message, and those of an
     /// unfinished greeting or frame.
     pub fn kept(&self) -> u64
         ensures { (own : PeerIdValue) (line : List Member) (linked : Bool) (o : List ℕ) (n : ℕ) →

@@ -18,9 +18,9 @@ use zre_values::{Octets, OutOfMemory};
 /// Messages with more octets are spelled in memory of their own, which is let go with the call.
 const SHORT: u64 = 512;
 
-// How many octets there are with so many more, unless more would wait then than may.
+// How many octets the link has when `size` more are queued, unless more would wait then than may.
 fn with_more(queue: &Queue, written: u64, size: u64) -> Result<u64, PushFault>
-    requires some { 0 < written }
+    requires begun { 0 < written }
     ensures ok { (takes : ℕ) → size ≡ min takes (2 ^ 64 - 1) → IfOk result (λ all. (all ≡ written + takes)
         × (length queue.now + takes ≤ UNSENT_OCTETS)) }
     ensures refused { (takes : ℕ) → size ≡ min takes (2 ^ 64 - 1) →
@@ -66,11 +66,11 @@ pub fn queue_message(
 ) -> Result<u64, PushFault>
     // It has a spelling, and the list is empty.
     requires fits { Fits message.now }
-    requires some { 0 < written }
+    requires begun { 0 < written }
     requires empty { spelled.old ≡ [] }
     // The message is queued, or nothing is.
     ensures queued { Queues result queue.old queue.new written (octets_of message.now) }
-    // No octet of it is kept beside the queue.
+    // The list is empty again.
     ensures emptied { spelled.new ≡ [] }
 {
     let size = message.octets_len();
@@ -83,10 +83,11 @@ pub fn queue_message(
     Ok(all)
 }
 
-/// Queues a PING in the same way. All of its octets but the number are the same in each.
+/// Queues a PING after `written` octets, unless it passes the limit, and gives how many there are with it. Two PINGs
+/// differ in their number alone.
 pub fn queue_ping(queue: &mut Queue, written: u64, sequence: u16) -> Result<u64, PushFault>
     // The greeting was queued.
-    requires some { 0 < written }
+    requires begun { 0 < written }
     // It is queued, or nothing is.
     ensures queued { Queues result queue.old queue.new written
         (octets_of (record { sequence = sequence; body = Ping })) }
@@ -115,7 +116,7 @@ fn queue_tailed(
     written: u64,
     tail: &Tail,
 ) -> Result<u64, PushFault>
-    requires some { 0 < written }
+    requires begun { 0 < written }
     ensures queued { Queues result queue.old queue.new written (text.old ++ frames tail.now) }
 {
     let size = (text.len() as u64).saturating_add(tail.len() as u64);
@@ -124,8 +125,9 @@ fn queue_tailed(
     Ok(all)
 }
 
-/// Queues a SHOUT in the same way: its first frame, spelled in `head`, and then the octets of its content, which are
-/// shared where they are many. No octet stays in `head`.
+/// Queues a SHOUT after `written` octets, unless it passes the limit, and gives how many there are with it: its first
+/// frame, spelled in `head`, and then the octets of its content, which are shared where they are many. No octet stays
+/// in `head`.
 pub fn queue_shout(
     queue: &mut Queue,
     head: &mut Octets,
@@ -134,14 +136,14 @@ pub fn queue_shout(
 ) -> Result<u64, PushFault>
     // It has a spelling, and the list is empty.
     requires fits { FitsString shout.now.group.now }
-    requires some { 0 < written }
+    requires begun { 0 < written }
     requires empty { head.old ≡ [] }
     // The message is queued, or nothing is.
     ensures queued { Queues result queue.old queue.new written (octets_of (record {
       sequence = shout.now.sequence;
       body = Shout shout.now.group.now shout.now.tail.now;
     })) }
-    // No octet of it is kept beside the queue.
+    // The list is empty again.
     ensures emptied { head.new ≡ [] }
 {
     let more = !shout.tail.is_empty();

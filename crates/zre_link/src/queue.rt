@@ -50,8 +50,8 @@ fn close(parts: &mut VecDeque<Bytes>, newest: &mut BytesMut) -> Result<(), OutOf
     // What a call that is done gives.
     ensures ok { OnOk result ((newest.new.items ≡ [])
         × (concat parts.new.items ≡ concat parts.old.items ++ newest.old.items)) }
-    ensures room { OnOk result (deque_len parts.new < deque_capacity parts.new) }
-    ensures some { All HasOctets parts.old.items → All HasOctets parts.new.items }
+    ensures reserved { OnOk result (deque_len parts.new < deque_capacity parts.new) }
+    ensures have_octets { All HasOctets parts.old.items → All HasOctets parts.new.items }
     // What a refusal tells, and what it leaves.
     ensures err { OnErr result ((newest.new.items ≡ newest.old.items) × (parts.new.items ≡ parts.old.items)) }
 {
@@ -77,7 +77,7 @@ fn put(
     // Both are appended, or nothing is.
     ensures ok { OnOk result ((newest.new.items ≡ [])
         × (concat parts.new.items ≡ ((concat parts.old.items ++ newest.old.items) ++ text.now) ++ part)) }
-    ensures some { All HasOctets parts.old.items → All HasOctets parts.new.items }
+    ensures have_octets { All HasOctets parts.old.items → All HasOctets parts.new.items }
     ensures err { OnErr result ((newest.new.items ≡ newest.old.items) × (parts.new.items ≡ parts.old.items)) }
 {
     let len = newest.len();
@@ -101,8 +101,8 @@ fn make_room(
     parts: &mut VecDeque<Bytes>,
     newest: &mut BytesMut,
 ) -> Result<(), OutOfMemory>
-    ensures same { concat parts.new.items ++ newest.new.items ≡ concat parts.old.items ++ newest.old.items }
-    ensures some { All HasOctets parts.old.items → All HasOctets parts.new.items }
+    ensures unchanged { concat parts.new.items ++ newest.new.items ≡ concat parts.old.items ++ newest.old.items }
+    ensures have_octets { All HasOctets parts.old.items → All HasOctets parts.new.items }
 {
     if newest.capacity() < PART {
         return Ok(());
@@ -121,7 +121,7 @@ fn add(
 ) -> Result<(), OutOfMemory>
     ensures ok { OnOk result (concat parts.new.items ++ newest.new.items
         ≡ (concat parts.old.items ++ newest.old.items) ++ octets.now) }
-    ensures some { All HasOctets parts.old.items → All HasOctets parts.new.items }
+    ensures have_octets { All HasOctets parts.old.items → All HasOctets parts.new.items }
     ensures err { OnErr result (concat parts.new.items ++ newest.new.items
         ≡ concat parts.old.items ++ newest.old.items) }
 {
@@ -138,9 +138,9 @@ fn add(
 
 // Removes so many octets from the front, or all, and tells how many fewer they were.
 fn remove_parts(parts: &mut VecDeque<Bytes>, count: usize) -> usize
-    ensures rest { concat parts.new.items ≡ drop count (concat parts.old.items) }
-    ensures left { result ≡ count - length (concat parts.old.items) }
-    ensures some { All HasOctets parts.old.items → All HasOctets parts.new.items }
+    ensures removed { concat parts.new.items ≡ drop count (concat parts.old.items) }
+    ensures missing { result ≡ count - length (concat parts.old.items) }
+    ensures have_octets { All HasOctets parts.old.items → All HasOctets parts.new.items }
 {
     let mut left = count;
     'parts: while left > 0 {

@@ -97,7 +97,7 @@ impl Replies {
         // How many octets are looked at.
         ensures once { steps.new ≤ steps.old + length piece.now }
         ensures looks { Looks steps.old steps.new (kept_of self.old) (kept_of self.new) (length piece.now) result }
-        // A refusal keeps nothing.
+        // After a refusal no octets are held.
         ensures emptied { OnErr result (kept_of self.new ≡ 0) }
     {
         let reader = match &mut self.hearing {
@@ -120,7 +120,7 @@ impl Replies {
         self.awaits
     }
 
-    /// How many octets are kept: those of the bodies of an unfinished message, and those of an unfinished greeting or
+    /// How many octets are held: those of the bodies of an unfinished message, and those of an unfinished greeting or
     /// frame.
     pub fn kept(&self) -> u64
         ensures { (o : List ℕ) → self.now ≡ heard_after o →

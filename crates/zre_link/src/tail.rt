@@ -14,12 +14,12 @@ use zre_zmtp::write_message;
 /// Fewer octets are copied onto each link: that costs less than to share them.
 const SHARED: usize = 512;
 
-/// How the octets of a content are kept.
+/// How the octets of a content are held.
 #[derive(Drop)]
 pub enum Spelled {
     /// They are copied onto each link.
     Copied(Octets),
-    /// All links hold the same.
+    /// All links share them.
     Shared(Bytes),
 }
 
@@ -57,10 +57,10 @@ fn spell(alloc: Global, content: &Frames) -> Result<Octets, OutOfMemory>
     write_message(alloc, content)
 }
 
-// These octets, kept by their number.
-fn keep(alloc: Global, octets: Octets) -> Result<Spelled, OutOfMemory>
-    ensures same { IfOk result (λ spelled. spelled_octets spelled ≡ octets) }
-    ensures few { length octets < 2 ^ 64 }
+// The octets as all links have them: copied where they are fewer than 512, else shared.
+fn copied_or_shared(alloc: Global, octets: Octets) -> Result<Spelled, OutOfMemory>
+    ensures octets { IfOk result (λ spelled. spelled_octets spelled ≡ octets) }
+    ensures bounded { length octets < 2 ^ 64 }
 {
     if octets.len() < SHARED {
         return Ok(Spelled::Copied(octets));
@@ -75,7 +75,7 @@ impl Tail {
         ensures { IfOk result (λ tail. tail ≡ content.now) }
     {
         let octets = spell(alloc, content)?;
-        let spelled = keep(alloc, octets)?;
+        let spelled = copied_or_shared(alloc, octets)?;
         Ok(Tail { spelled })
     }
 

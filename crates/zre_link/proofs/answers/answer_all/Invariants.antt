@@ -1,6 +1,6 @@
 use Rattle.std.proofs.Common.{length}
 use Rattle.zre_zmtp.specs.Ping.{contexts_in}
-use Rattle.zre_link.proofs.Answering.{IsAnswering}
+use Rattle.zre_link.proofs.PongsQueued.{IsAnswering}
 use Rattle.zre_link.proofs.answers.answer_all.Given as goal
 
 abbrev pub invariant-items : goal.invariant-items

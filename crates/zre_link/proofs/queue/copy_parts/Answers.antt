@@ -1,5 +1,5 @@
 use Rattle.std.proofs.Common.{rules, ◌∙◌}
-use Rattle.zre_link.proofs.Lasts.{copied}
+use Rattle.zre_link.proofs.LastOctets.{copied}
 use Rattle.zre_link.proofs.queue.copy_parts.Goals as goal
 
 pub parts-preserved : goal.parts-preserved

@@ -1,5 +1,5 @@
 use Rattle.std.proofs.Common.{arith, ◌-◌}
-use Rattle.zre_link.proofs.Lasts.{begin_in}
+use Rattle.zre_link.proofs.LastOctets.{begin_in}
 use Rattle.zre_link.proofs.queue.place_of_last.Goals as goal
 
 pub returns-then-left-len : goal.returns-then-left-len

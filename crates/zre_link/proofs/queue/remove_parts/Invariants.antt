@@ -1,5 +1,5 @@
 use Rattle.std.proofs.Common.{length}
-use Rattle.zre_link.proofs.Removing.{IsRemoving}
+use Rattle.zre_link.proofs.RemovedOctets.{IsRemoving}
 use Rattle.zre_link.proofs.queue.remove_parts.Given as goal
 
 abbrev pub invariant-parts : goal.invariant-parts

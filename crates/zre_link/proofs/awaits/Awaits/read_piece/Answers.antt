@@ -1,7 +1,7 @@
 use Rattle.zre_zmtp.specs.Stream.{Whole}
 use Rattle.zre_zmtp.specs.declared.want.Want.TheVariants.{Router}
 use Rattle.zre_link.specs.Heard.{expected_of}
-use Rattle.zre_link.proofs.RepliesKept.{awaited_more, pinged, read_refused}
+use Rattle.zre_link.proofs.HeardReplies.{awaited_more, pinged, read_refused}
 use Rattle.zre_link.proofs.awaits.Awaits.read_piece.Goals as goal
 
 pub returns-in-Ok-clause-ok : goal.returns-in-Ok-clause-ok

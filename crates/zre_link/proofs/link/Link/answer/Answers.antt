@@ -1,8 +1,8 @@
 use Rattle.std.proofs.Common.{◌≡◌, ℕ, None, ap, subst, ◌∙◌, arith}
 use Rattle.zre_zmtp.specs.Ping.{contexts_in}
 use Rattle.zre_link.specs.Link.{Sending, slow_at}
-use Rattle.zre_link.proofs.Numbered.{pongs_queued, waits-of}
-use Rattle.zre_link.proofs.Replied.{answers_refused, on_ok, if_err}
+use Rattle.zre_link.proofs.AppendedMembers.{pongs_queued, waits-of}
+use Rattle.zre_link.proofs.AnsweredReplies.{answers_refused, on_ok, if_err}
 use Rattle.zre_link.proofs.link.Link.answer.Goals as goal
 
 pub invariant_of-self : goal.invariant_of-self

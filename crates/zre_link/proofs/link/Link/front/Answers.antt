@@ -2,7 +2,7 @@ use Rattle.std.proofs.Common.{◌≡◌, ◌-◌, ap, subst, ◌∙◌, take, dr
 use Rattle.zre_link.specs.Front.{IsFront}
 use Rattle.zre_link.specs.Link.{Sending, gate_at, gate_of}
 use Rattle.zre_link.specs.Text.{text_of}
-use Rattle.zre_link.proofs.Fronts.{cut_front}
+use Rattle.zre_link.proofs.SendableFronts.{cut_front}
 use Rattle.zre_link.proofs.link.Link.front.Goals as goal
 
 pub returns-clause-front : goal.returns-clause-front

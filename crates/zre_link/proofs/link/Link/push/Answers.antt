@@ -1,6 +1,6 @@
 use Rattle.std.proofs.Common.{◌∙◌, arith}
 use Rattle.zre_link.specs.Link.{Sending}
-use Rattle.zre_link.proofs.Numbered.{pushed}
+use Rattle.zre_link.proofs.AppendedMembers.{pushed}
 use Rattle.zre_link.proofs.link.Link.push.Goals as goal
 
 pub returns-clause-ok : goal.returns-clause-ok

@@ -1,7 +1,7 @@
 use Rattle.std.proofs.Common.{refl, ◌∙◌, arith}
 use Rattle.zre_msg.specs.declared.message.Body.TheVariants.{Shout}
 use Rattle.zre_link.specs.Link.{Sending}
-use Rattle.zre_link.proofs.Numbered.{pushed}
+use Rattle.zre_link.proofs.AppendedMembers.{pushed}
 use Rattle.zre_link.proofs.link.Link.push_shout.Goals as goal
 
 pub returns-clause-ok : goal.returns-clause-ok

@@ -1,6 +1,6 @@
 use Rattle.std.proofs.Common.{◌++◌, ◌-◌, length, drop, ap, ◌∙◌, arith}
 use Rattle.std.specs.List.{concat}
-use Rattle.zre_link.proofs.Lasts.{last_of_both}
+use Rattle.zre_link.proofs.LastOctets.{last_of_both}
 use Rattle.zre_link.proofs.queue.Queue.last.Goals as goal
 
 pub returns : goal.returns

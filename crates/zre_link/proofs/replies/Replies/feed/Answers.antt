@@ -1,6 +1,6 @@
 use Rattle.std.proofs.Common.{◌∙◌}
 use Rattle.zre_link.specs.Heard.{Heard, expected_of}
-use Rattle.zre_link.proofs.RepliesKept.{stays_refused}
+use Rattle.zre_link.proofs.HeardReplies.{stays_refused}
 use Rattle.zre_link.proofs.replies.Replies.feed.Goals as goal
 
 pub returns-in-Refused-clause-refused : goal.returns-in-Refused-clause-refused

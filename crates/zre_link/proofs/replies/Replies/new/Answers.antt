@@ -1,4 +1,4 @@
-use Rattle.zre_link.proofs.RepliesKept.{heard_nothing}
+use Rattle.zre_link.proofs.HeardReplies.{heard_nothing}
 use Rattle.zre_link.proofs.replies.Replies.new.Goals as goal
 
 pub returns : goal.returns

@@ -1,5 +1,5 @@
 use Rattle.std.proofs.Common.{ap, ◌∙◌, nat_eq}
-use Rattle.zre_link.proofs.Bodies.{none_as}
+use Rattle.zre_link.proofs.BodiesOfFrames.{none_as}
 use Rattle.zre_link.proofs.tail.Tail.is_empty.Goals as goal
 
 pub returns : goal.returns

@@ -6,7 +6,7 @@ use Rattle.std.proofs.Math.Seq.{drop-append-add}
 use Rattle.std.proofs.lemmas.List.{take-append-drop, drop_more}
 use Rattle.std.proofs.lemmas.List.Folds.{concat-append}
 use Rattle.bytes.proofs.Chunks.{drop-append_min}
-use Rattle.zre_link.proofs.Removing.{drop_both}
+use Rattle.zre_link.proofs.RemovedOctets.{drop_both}
 
 parted : (parts : List (List ℕ)) (i : ℕ) → concat parts ≡ concat (take i parts) ++ concat (drop i parts)
 parted parts i = ap concat (sym (take-append-drop i parts)) ∙ concat-append (take i parts) (drop i parts)
