@@ -22,11 +22,11 @@ impl View {
         requires { is_small self.now ≡ true }
         ensures { (status : ℕ) → result ≡ is_small (after self.now (bodies.Join group.now status)) }
     {
-        self.groups.has_room(group)
+        self.groups.can_add(group)
     }
 
     // Refuses a JOIN with which the view would pass a limit.
-    pub(crate) fn expect_room(&self, group: &[u8]) -> Answer
+    pub(crate) fn expect_join(&self, group: &[u8]) -> Answer
         requires { is_small self.now ≡ true }
         ensures ok { (status : ℕ) → OnOk result (is_small (after self.now (bodies.Join group.now status)) ≡ true) }
         ensures refused { (status : ℕ) → IfErr result (λ e.
@@ -41,7 +41,7 @@ impl View {
     /// Adds the group of a JOIN. After an error the view is as it was.
     pub(crate) fn join(&mut self, alloc: Global, group: &[u8], status: u8) -> Answer
         ensures ok { OnOk result (self.new ≡ after self.old (bodies.Join group.now status)) }
-        ensures kept { OnErr result (self.new ≡ self.old) }
+        ensures unchanged { OnErr result (self.new ≡ self.old) }
         ensures refused { IfErr result (λ e. e ≡ RunFault.OutOfMemory) }
     {
         self.groups.insert(alloc, group)?;
@@ -128,12 +128,12 @@ impl View {
         ensures ok { OnOk result (ChangesWithEvents id self.old self.new (message_of lent.now).body
             events.old events.new) }
         // It is refused: nothing changes, and why.
-        ensures kept { OnErr result (self.new ≡ self.old) }
+        ensures unchanged { OnErr result (self.new ≡ self.old) }
         ensures refused { PassesLimit result self.old (message_of lent.now).body events.old events.new }
     {
         match lent.command {
             LentBody::Join { group, status } => {
-                self.expect_room(group)?;
+                self.expect_join(group)?;
                 push_join(alloc, events, id, &self.name, group)?;
                 self.join(alloc, group, status)
             }

@@ -76,7 +76,7 @@ impl Groups {
     }
 
     /// Whether the groups stay within the limits with one more. Where they are fewer than the limit, none is looked at.
-    pub fn has_room(&self, group: &[u8]) -> bool
+    pub fn can_add(&self, group: &[u8]) -> bool
         requires { are_few self.now ≡ true }
         ensures { result ≡ are_few (with_group self.now group.now) }
     {

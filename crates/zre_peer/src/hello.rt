@@ -27,7 +27,7 @@ fn distinct_of(alloc: Global, groups: &Frames) -> Result<Groups, RunFault>
 {
     let mut found = Groups::new(alloc);
     for group in groups.as_slice() {
-        if !found.has_room(group.as_slice()) {
+        if !found.can_add(group.as_slice()) {
             return Err(RunFault::Limit);
         }
         found.insert(alloc, group.as_slice())?;
@@ -45,7 +45,7 @@ fn first_named_of(alloc: Global, headers: &Pairs) -> Result<Headers, RunFault>
     let mut found = Headers::new(alloc);
     for header in headers.as_slice() {
         let (name, value) = (header.0.as_slice(), header.1.as_slice());
-        if !found.has_room(name) {
+        if !found.can_add(name) {
             return Err(RunFault::Limit);
         }
         found.insert(alloc, name, value)?;

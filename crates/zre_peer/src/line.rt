@@ -13,7 +13,7 @@ use zre_values::{
     push_quoted_pairs,
 };
 
-/// Appends who a peer is, as it stands after the word of each of its events that have further fields.
+/// Appends the identity and the name of a peer, as they stand after the word of an event that has further fields.
 pub(crate) fn push_who(out: &mut Octets, id: PeerId, name: &[u8]) -> Result<(), OutOfMemory>
     ensures { OnOk result (out.new ≡ out.old ++ who_text id name.now) }
 {

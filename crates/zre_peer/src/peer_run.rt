@@ -117,7 +117,7 @@ fn expect_number(due: u16, got: u16) -> Answer
 impl View {
     // A message after HELLO that lies in its frames: it is counted and changes the view, or is refused.
     #[inline(always)]
-    #[tactic(auto, using(crate::proofs::Named::lent_is_later))]
+    #[tactic(auto, using(crate::proofs::LinesAfterHello::lent_is_later))]
     fn later(
         &mut self,
         alloc: Global,
@@ -135,7 +135,7 @@ impl View {
         // What holds of the view in any case.
         ensures small { is_small self.new ≡ true }
         // It isn't: nothing changes, and why.
-        ensures kept { OnErr result (self.new ≡ self.old) }
+        ensures unchanged { OnErr result (self.new ≡ self.old) }
         ensures refused { RefusesLater result self.old due (message_of lent.now) events.old events.new }
     {
         expect_number(due, lent.sequence)?;
@@ -144,7 +144,7 @@ impl View {
 
     // A message after HELLO that lies in its frames, with the lines of its events, which begin with `heads`.
     #[inline(always)]
-    #[tactic(auto, using(crate::proofs::Named::lent_is_later))]
+    #[tactic(auto, using(crate::proofs::LinesAfterHello::lent_is_later))]
     fn tell_later(
         &mut self,
         alloc: Global,
@@ -158,12 +158,12 @@ impl View {
         // It is the next one: the view after it, and the lines.
         ensures ok { OnOk result ((goes_on self.old due (message_of lent.now) ≡ true)
             × (self.new ≡ after self.old (message_of lent.now).body)) }
-        ensures told { TellsLines result heads.now self.old (message_of lent.now).body out.old out.new }
+        ensures lines { TellsLines result heads.now self.old (message_of lent.now).body out.old out.new }
         // What holds of the view in any case.
         ensures name { self.new.name ≡ self.old.name }
         ensures small { is_small self.new ≡ true }
         // It isn't: nothing changes, and why.
-        ensures kept { OnErr result (self.new ≡ self.old) }
+        ensures unchanged { OnErr result (self.new ≡ self.old) }
         ensures refused { RefusesLater result self.old due (message_of lent.now) out.old out.new }
     {
         expect_number(due, lent.sequence)?;
@@ -218,12 +218,12 @@ impl Run {
         self.count.wrapping_add(1)
     }
 
-    // What is kept of an answer: a message that was taken is counted, with this number, and after a refusal no further
-    // one is taken. Lack of memory changes nothing.
+    // Notes an answer: a message that was taken is counted, with this number, and after a refusal no further one is
+    // taken. Lack of memory changes nothing.
     #[inline(always)]
     fn settle(&mut self, number: u16, answer: Answer) -> Answer
         requires { is_spent self.old ≡ false }
-        ensures same { result ≡ answer }
+        ensures answer { result ≡ answer }
         ensures ok { OnOk answer (self.new ≡ record self.old { count = number }) }
         ensures refused { IfErr answer (λ e. e ≢ RunFault.OutOfMemory → self.new ≡ record self.old { spent = true }) }
         ensures unchanged { answer ≡ Err RunFault.OutOfMemory → self.new ≡ self.old }
@@ -241,16 +241,16 @@ impl Run {
         // It is the next one: its events.
         ensures ok { (ms : List Message) → Stands self.old ms → IfOk result (λ events.
             Stands self.new (ms ++ message ∷ []) × (events ≡ events_of (id_of self.old) (view_of ms) message.body)) }
-        ensures going { OnOk result (is_spent self.new ≡ false) }
+        ensures unspent { OnOk result (is_spent self.new ≡ false) }
         // It isn't: the fault, and no further message is taken.
         ensures refused { (ms : List Message) → Stands self.old ms → IfErr result (λ e. e ≢ RunFault.OutOfMemory →
             (in_order (ms ++ message ∷ []) ≡ false) × (e ≡ fault_of ms message)) }
         ensures spent { IfErr result (λ e. e ≢ RunFault.OutOfMemory → is_spent self.new ≡ true) }
         // Of a sender's numbered list, none is missing, repeated or out of order.
         ensures ledger { (ms : List Message) → Stands self.old ms → KeepsItsList result ms message }
-        // What stays as it was.
+        // What is unchanged.
         ensures unchanged { result ≡ Err RunFault.OutOfMemory → self.new ≡ self.old }
-        ensures kept { OnErr result (view_in self.new ≡ view_in self.old) }
+        ensures view_unchanged { OnErr result (view_in self.new ≡ view_in self.old) }
         ensures id { id_of self.new ≡ id_of self.old }
     {
         let mut events = Events::new(self.alloc);
@@ -265,13 +265,13 @@ impl Run {
         ensures first { view_in self.old ≡ None → OnOk result (
             (is_hello message.body ≡ true) × (view_in self.new ≡ Some (after blank message.body))) }
         ensures ok { Takes result self.old self.new message events.old events.new }
-        ensures going { OnOk result (is_spent self.new ≡ false) }
+        ensures unspent { OnOk result (is_spent self.new ≡ false) }
         // It isn't: the fault, and no further message is taken.
         ensures refused { RefusesToTake result self.old message events.old events.new }
         ensures spent { IfErr result (λ e. e ≢ RunFault.OutOfMemory → is_spent self.new ≡ true) }
-        // What stays as it was.
+        // What is unchanged.
         ensures unchanged { result ≡ Err RunFault.OutOfMemory → self.new ≡ self.old }
-        ensures kept { OnErr result (view_in self.new ≡ view_in self.old) }
+        ensures view_unchanged { OnErr result (view_in self.new ≡ view_in self.old) }
         ensures id { id_of self.new ≡ id_of self.old }
     {
         let taken = self.take_from(&mut message, events);
@@ -279,20 +279,21 @@ impl Run {
         taken
     }
 
-    /// Takes the next message as `take` does; what a HELLO holds is taken out of it.
+    /// Takes the next message and appends its events to a list; the fields of a HELLO are moved out of it. After
+    /// `OutOfMemory` some of the events may stand there.
     pub(crate) fn take_from(&mut self, message: &mut Message, events: &mut Events) -> Answer
         requires { is_spent self.old ≡ false }
         // It is the next one: its events, and the view of a HELLO.
         ensures first { view_in self.old ≡ None → OnOk result (
             (is_hello message.old.body ≡ true) × (view_in self.new ≡ Some (after blank message.old.body))) }
         ensures ok { Takes result self.old self.new message.old events.old events.new }
-        ensures going { OnOk result (is_spent self.new ≡ false) }
+        ensures unspent { OnOk result (is_spent self.new ≡ false) }
         // It isn't: the fault, and no further message is taken.
         ensures refused { RefusesToTake result self.old message.old events.old events.new }
         ensures spent { IfErr result (λ e. e ≢ RunFault.OutOfMemory → is_spent self.new ≡ true) }
-        // What stays as it was.
+        // What is unchanged.
         ensures unchanged { result ≡ Err RunFault.OutOfMemory → self.new ≡ self.old }
-        ensures kept { OnErr result (view_in self.new ≡ view_in self.old) }
+        ensures view_unchanged { OnErr result (view_in self.new ≡ view_in self.old) }
         ensures id { id_of self.new ≡ id_of self.old }
     {
         if self.view.is_some() {
@@ -313,18 +314,18 @@ impl Run {
 
     /// Takes a message after HELLO that lies in its frames: its fields and its content are copied once, into its event.
     pub fn take_lent(&mut self, lent: &LentMessage<'_>, events: &mut Events) -> Answer
-        requires going { is_spent self.old ≡ false }
-        requires later { is_some (view_in self.old) ≡ true }
+        requires unspent { is_spent self.old ≡ false }
+        requires after_hello { is_some (view_in self.old) ≡ true }
         // It is the next one: its events.
         ensures ok { Takes result self.old self.new (message_of lent.now) events.old events.new }
-        ensures going { OnOk result (is_spent self.new ≡ false) }
+        ensures unspent { OnOk result (is_spent self.new ≡ false) }
         // It isn't: the fault, which isn't that of a first message, and no further message is taken.
         ensures refused { RefusesToTake result self.old (message_of lent.now) events.old events.new }
-        ensures never { IfErr result (λ e. e ≢ RunFault.NotHello) }
+        ensures not_first { IfErr result (λ e. e ≢ RunFault.NotHello) }
         ensures spent { IfErr result (λ e. e ≢ RunFault.OutOfMemory → is_spent self.new ≡ true) }
-        // What stays as it was.
+        // What is unchanged.
         ensures unchanged { result ≡ Err RunFault.OutOfMemory → self.new ≡ self.old }
-        ensures kept { OnErr result (view_in self.new ≡ view_in self.old) }
+        ensures view_unchanged { OnErr result (view_in self.new ≡ view_in self.old) }
         ensures id { id_of self.new ≡ id_of self.old }
     {
         let next = self.due();
@@ -340,17 +341,17 @@ impl Run {
     #[inline(always)]
     pub(crate) fn tell(&mut self, lent: &LentMessage<'_>, heads: &Heads, out: &mut Octets) -> Answer
         // The run has taken HELLO and refused nothing, and these begin its lines.
-        requires going { is_spent self.old ≡ false }
-        requires later { is_some (view_in self.old) ≡ true }
+        requires unspent { is_spent self.old ≡ false }
+        requires after_hello { is_some (view_in self.old) ≡ true }
         requires ready { IsReady self.old heads.now }
         // It is the next one: its lines.
         ensures ok { Tells result self.old self.new (message_of lent.now) out.old out.new }
-        ensures going { OnOk result (is_spent self.new ≡ false) }
+        ensures unspent { OnOk result (is_spent self.new ≡ false) }
         // It isn't: the fault, and no further message is taken.
         ensures refused { RefusesToTell result self.old (message_of lent.now) out.old out.new }
         ensures spent { IfErr result (λ e. e ≢ RunFault.OutOfMemory → is_spent self.new ≡ true) }
-        // What stays as it was.
-        ensures kept { OnErr result (view_in self.new ≡ view_in self.old) }
+        // What is unchanged.
+        ensures view_unchanged { OnErr result (view_in self.new ≡ view_in self.old) }
         ensures ready { IsReady self.new heads.now }
         ensures id { id_of self.new ≡ id_of self.old }
     {
@@ -370,7 +371,7 @@ impl Run {
         ensures refused { (ms : List Message) (m : Message) → Stands self.old ms → is_hello m.body ≡ true →
             (may_follow ms m ≡ false) × (result ≡ fault_of ms m) }
         ensures fault { result ≡ RunFault.SecondHello }
-        ensures only { self.new ≡ record self.old { spent = true } }
+        ensures spent { self.new ≡ record self.old { spent = true } }
     {
         self.spent = true;
         RunFault::SecondHello

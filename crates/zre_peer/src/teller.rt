@@ -88,7 +88,7 @@ impl Teller {
         self.run.spent()
     }
 
-    /// Takes the next message, and appends the lines of its events. After `OutOfMemory` a front of them may stand
+    /// Takes the next message, and appends the lines of its events. After `OutOfMemory` a prefix of them may be
     /// there, and nothing is said of the run.
     pub fn take(&mut self, mut message: Message, out: &mut Octets) -> Answer
         // Nothing was refused.
@@ -113,11 +113,11 @@ impl Teller {
         self.run.view().is_some()
     }
 
-    /// Takes a message after HELLO, of which the run keeps nothing, and appends the lines of its events.
+    /// Takes a message after HELLO, of which the run holds nothing, and appends the lines of its events.
     pub fn take_later(&mut self, message: &Message, out: &mut Octets) -> Answer
         // HELLO was taken, and nothing refused.
-        requires going { is_spent self.old ≡ false }
-        requires later { is_some (view_in self.old) ≡ true }
+        requires unspent { is_spent self.old ≡ false }
+        requires after_hello { is_some (view_in self.old) ≡ true }
         // It is the next one, and its lines; or it isn't, and the fault.
         ensures { Handed result self.old self.new message.now out.old out.new }
     {
@@ -131,8 +131,8 @@ impl Teller {
     #[inline(always)]
     pub fn take_lent(&mut self, lent: &LentMessage<'_>, out: &mut Octets) -> Answer
         // HELLO was taken, and nothing refused.
-        requires going { is_spent self.old ≡ false }
-        requires later { is_some (view_in self.old) ≡ true }
+        requires unspent { is_spent self.old ≡ false }
+        requires after_hello { is_some (view_in self.old) ≡ true }
         // It is the next one, and its lines; or it isn't, and the fault.
         ensures { Handed result self.old self.new (message_of lent.now) out.old out.new }
     {
@@ -141,8 +141,8 @@ impl Teller {
 
     fn take_first(&mut self, message: &mut Message, out: &mut Octets) -> Answer
         // Nothing was taken or refused.
-        requires going { is_spent self.old ≡ false }
-        requires first { is_some (view_in self.old) ≡ false }
+        requires unspent { is_spent self.old ≡ false }
+        requires before_hello { is_some (view_in self.old) ≡ false }
         // It is the next one, and its lines; or it isn't, and the fault.
         ensures { Handed result self.old self.new message.old out.old out.new }
     {

@@ -83,14 +83,14 @@ impl View {
         requires { is_small self.old ≡ true }
         // The view after it, and the lines of its events.
         ensures ok { OnOk result (Changes self.old self.new (message_of lent.now).body) }
-        ensures told { TellsLines result heads.now self.old (message_of lent.now).body out.old out.new }
+        ensures lines { TellsLines result heads.now self.old (message_of lent.now).body out.old out.new }
         // It is refused: nothing changes, and why.
-        ensures kept { OnErr result (self.new ≡ self.old) }
+        ensures unchanged { OnErr result (self.new ≡ self.old) }
         ensures refused { PassesLimit result self.old (message_of lent.now).body out.old out.new }
     {
         match lent.command {
             LentBody::Join { group, status } => {
-                self.expect_room(group)?;
+                self.expect_join(group)?;
                 push_group(out, &heads.join, group)?;
                 self.join(alloc, group, status)
             }

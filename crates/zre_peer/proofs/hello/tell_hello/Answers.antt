@@ -1,4 +1,4 @@
-use Rattle.zre_peer.proofs.Members.{mapped_next}
+use Rattle.zre_peer.proofs.MembersByPlace.{mapped_next}
 use Rattle.zre_peer.proofs.hello.tell_hello.Goals as goal
 
 pub loop-i-preserved : goal.loop-i-preserved

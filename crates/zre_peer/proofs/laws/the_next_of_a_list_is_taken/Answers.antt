@@ -1,4 +1,4 @@
-use Rattle.zre_peer.proofs.Ledgers.{follows}
+use Rattle.zre_peer.proofs.RunsOfNumberedLists.{follows}
 use Rattle.zre_peer.proofs.laws.the_next_of_a_list_is_taken.Goals as goal
 
 pub returns : goal.returns

@@ -1,4 +1,4 @@
-use Rattle.zre_peer.proofs.Opening.{first_accepts}
+use Rattle.zre_peer.proofs.FirstMessages.{first_accepts}
 use Rattle.zre_peer.proofs.peer_run.first.Goals as goal
 
 pub returns-clause-ok : goal.returns-clause-ok

@@ -1,6 +1,6 @@
 use Rattle.std.proofs.Common.{arith}
 use Rattle.std.proofs.lemmas.Result.{IfErr-weaker}
-use Rattle.zre_peer.proofs.Opening.{first_refuses}
+use Rattle.zre_peer.proofs.FirstMessages.{first_refuses}
 use Rattle.zre_peer.proofs.peer_run.view_of_first.Goals as goal
 
 pub returns-clause-refused : goal.returns-clause-refused

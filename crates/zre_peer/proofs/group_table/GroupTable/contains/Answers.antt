@@ -1,7 +1,7 @@
 use Rattle.std.proofs.Common.{ap, ◌∙◌}
 use Rattle.std.specs.List.{list_any}
 use Rattle.std.specs.Str.{bytes_eq}
-use Rattle.zre_peer.proofs.Tables.{any_named}
+use Rattle.zre_peer.proofs.IndexedNames.{any_named}
 use Rattle.zre_peer.proofs.group_table.GroupTable.contains.Goals as goal
 
 pub returns : goal.returns

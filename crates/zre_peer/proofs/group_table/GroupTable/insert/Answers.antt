@@ -1,6 +1,6 @@
 use Rattle.std.proofs.Common.{map, ap, ◌∙◌}
 use Rattle.zre_peer.specs.Members.{with_group}
-use Rattle.zre_peer.proofs.Tables.{joined_named}
+use Rattle.zre_peer.proofs.IndexedNames.{joined_named}
 use Rattle.zre_peer.proofs.group_table.GroupTable.insert.Goals as goal
 
 pub returns-clause-ok : goal.returns-clause-ok

@@ -1,5 +1,5 @@
 use Rattle.std.proofs.Common.{◌∙◌}
-use Rattle.zre_peer.proofs.Tables.{place_named, place_within}
+use Rattle.zre_peer.proofs.IndexedNames.{place_named, place_within}
 use Rattle.zre_peer.proofs.group_table.GroupTable.place_of.Goals as goal
 
 pub returns-clause-place : goal.returns-clause-place

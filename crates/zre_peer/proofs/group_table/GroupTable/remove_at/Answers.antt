@@ -1,6 +1,6 @@
 use Rattle.std.proofs.Common.{map, ap, ◌∙◌}
 use Rattle.std.specs.Prelude.{remove}
-use Rattle.zre_peer.proofs.Tables.{left_named}
+use Rattle.zre_peer.proofs.IndexedNames.{left_named}
 use Rattle.zre_peer.proofs.group_table.GroupTable.remove_at.Goals as goal
 
 pub returns : goal.returns

@@ -1,5 +1,5 @@
 use Rattle.std.proofs.Common.{sym}
-use Rattle.zre_peer.proofs.Tables.{left_front, left_after, left_whole}
+use Rattle.zre_peer.proofs.IndexedNames.{left_front, left_after, left_whole}
 use Rattle.zre_peer.proofs.groups.Groups.place_of.Goals as goal
 
 pub returns-in-Some : goal.returns-in-Some

@@ -1,5 +1,5 @@
 use Rattle.std.proofs.Common.{sym, ◌∙◌}
-use Rattle.zre_peer.proofs.Entries.{header_there, header_new}
+use Rattle.zre_peer.proofs.PairsOfMaps.{header_there, header_new}
 use Rattle.zre_peer.proofs.headers.Headers.insert.Goals as goal
 
 pub returns-then-contains_key-clause-ok : goal.returns-then-contains_key-clause-ok

@@ -1,6 +1,6 @@
 use Rattle.std.proofs.Common.{Ok, Err}
 use Rattle.std.proofs.lemmas.Result.{err_from_is_err_and}
-use Rattle.zre_peer.proofs.Ledgers.{keeps_its_list}
+use Rattle.zre_peer.proofs.RunsOfNumberedLists.{keeps_its_list}
 use Rattle.zre_peer.proofs.peer_run.Run.next.Goals as goal
 
 pub returns-clause-ledger : goal.returns-clause-ledger

@@ -1,5 +1,5 @@
 use Rattle.std.proofs.Common.{[], refl}
-use Rattle.zre_peer.proofs.Standing.{in_order-refused}
+use Rattle.zre_peer.proofs.RunsAfterMessages.{in_order-refused}
 use Rattle.zre_peer.proofs.peer_run.Run.take_from.Goals as goal
 
 pub returns-in-None-clause-refused : goal.returns-in-None-clause-refused

@@ -1,4 +1,4 @@
-use Rattle.zre_peer.proofs.Limits.{left_is_small}
+use Rattle.zre_peer.proofs.ViewsWithinLimits.{left_is_small}
 use Rattle.zre_peer.proofs.view.View.leave.Goals as goal
 
 pub returns-clause-small : goal.returns-clause-small

@@ -12,7 +12,7 @@ use Rattle.zre_peer.specs.declared.peer_run.RunFault.{RunFault}
 use Rattle.zre_peer.specs.declared.peer_run.RunFault.TheVariants as faults
 use Rattle.zre_peer.specs.Runs.{events_of, is_hello, may_follow, fault_of}
 use Rattle.zre_peer.specs.Views.{view_of, after, blank, is_small}
-use Rattle.zre_peer.proofs.Limits.{and_true}
+use Rattle.zre_peer.proofs.ViewsWithinLimits.{and_true}
 
 pub view_of_one : (m : Message) → view_of (m ∷ []) ≡ after blank m.body
 unfolding view_of

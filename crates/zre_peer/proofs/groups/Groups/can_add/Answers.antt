@@ -2,8 +2,8 @@ use Rattle.std.proofs.Common.{◌||◌, length, ltb, sym, ◌∙◌, arith}
 use Rattle.std.specs.List.{list_any}
 use Rattle.std.specs.Str.{bytes_eq}
 use Rattle.std.proofs.lemmas.Bool.{and_left, lt-leb}
-use Rattle.zre_peer.proofs.Limits.{few_with}
-use Rattle.zre_peer.proofs.groups.Groups.has_room.Goals as goal
+use Rattle.zre_peer.proofs.ViewsWithinLimits.{few_with}
+use Rattle.zre_peer.proofs.groups.Groups.can_add.Goals as goal
 
 pub returns-else-group-le-GROUP_OCTETS : goal.returns-else-group-le-GROUP_OCTETS
 returns-else-group-le-GROUP_OCTETS c =

@@ -2,9 +2,9 @@ use Rattle.std.proofs.Common.{◌||◌, length, sym, ap, ◌∙◌, arith}
 use Rattle.std.specs.List.{list_any}
 use Rattle.std.specs.Str.{bytes_eq}
 use Rattle.std.proofs.lemmas.Bool.{le-ltb}
-use Rattle.zre_peer.proofs.Entries.{name_there}
-use Rattle.zre_peer.proofs.Growing.{named_with}
-use Rattle.zre_peer.proofs.headers.Headers.has_room.Goals as goal
+use Rattle.zre_peer.proofs.PairsOfMaps.{name_there}
+use Rattle.zre_peer.proofs.PassedLimitsStay.{named_with}
+use Rattle.zre_peer.proofs.headers.Headers.can_add.Goals as goal
 
 pub returns-else-len-lt-HEADERS : goal.returns-else-len-lt-HEADERS
 returns-else-len-lt-HEADERS c = λ value.
