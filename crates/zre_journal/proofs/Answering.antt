@@ -9,7 +9,7 @@ use Rattle.zre_values.specs.declared.limits.TheConstants.{CONNECTIONS}
 use Rattle.zre_values.specs.declared.peer_id.PeerId.{PeerId}
 use Rattle.zre_zmtp.specs.declared.writing.SocketType.TheVariants as socket
 use Rattle.zre_zmtp.specs.Written.{own_greeting, ready_frame, pong_frame}
-use Rattle.zre_mailbox.proofs.Growing.{goes, nothing_said}
+use Rattle.zre_mailbox.proofs.TalkGrows.{goes, nothing_said}
 use Rattle.zre_mailbox.specs.declared.arrival.Arrival.TheVariants as arrival
 use Rattle.zre_mailbox.specs.Talk.{Said, Arrived, Fault, talk, completed as completed_by}
 use Rattle.zre_outside.specs.declared.act.Act.TheVariants as act

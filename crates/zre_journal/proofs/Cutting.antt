@@ -5,7 +5,7 @@ use Rattle.std.proofs.lemmas.List.{append_cancel_left}
 use Rattle.std.proofs.lemmas.List.Elements.{filter-append}
 use Rattle.std.specs.List.{AllByRecursion}
 use Rattle.zre_mailbox.specs.Talk.{Said, talk, completed as completed_by}
-use Rattle.zre_mailbox.proofs.Growing.{completed-append}
+use Rattle.zre_mailbox.proofs.TalkGrows.{completed-append}
 use Rattle.zre_outside.specs.declared.act.Act.TheVariants as act
 use Rattle.zre_outside.specs.declared.entry.Entry.{Entry}
 use Rattle.zre_outside.specs.declared.entry.Input.TheVariants as input

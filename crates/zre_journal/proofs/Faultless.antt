@@ -8,7 +8,7 @@ use Rattle.zre_values.specs.declared.peer_id.PeerId.{PeerId}
 use Rattle.zre_zmtp.specs.declared.fault.ZmtpFault.{ZmtpFault}
 use Rattle.zre_zmtp.specs.Stream.{cut, greeting_fault}
 use Rattle.zre_mailbox.specs.Talk.{Said, Arrived, Fault, talk, completed, new_arrivals, fault_in, fault_said}
-use Rattle.zre_mailbox.proofs.Growing.{goes}
+use Rattle.zre_mailbox.proofs.TalkGrows.{goes}
 use Rattle.zre_outside.specs.declared.entry.Input.{Input}
 use Rattle.zre_outside.specs.declared.entry.Input.TheVariants as input
 use Rattle.zre_peer.specs.declared.causes.Cause.TheVariants as cause

@@ -13,7 +13,7 @@ use Rattle.zre_zmtp.specs.declared.fault.ZmtpFault.{ZmtpFault}
 use Rattle.zre_mailbox.specs.declared.arrival.Arrival.{Arrival}
 use Rattle.zre_mailbox.specs.declared.arrival.Arrival.TheVariants as arrival
 use Rattle.zre_mailbox.specs.Talk.{Said, Arrived, Fault, talk, fault_in, fault_said}
-use Rattle.zre_mailbox.proofs.InOrder.{in_order}
+use Rattle.zre_mailbox.proofs.ArrivalsInOrder.{in_order}
 use Rattle.zre_msg.specs.declared.message.Message.{Message}
 use Rattle.zre_peer.specs.Runs.{is_hello, due}
 use Rattle.zre_peer.specs.Views.{view_of, is_small}

@@ -14,9 +14,9 @@ use Rattle.zre_mailbox.specs.declared.arrival.Arrival.{Arrival}
 use Rattle.zre_mailbox.specs.declared.arrival.Arrival.TheVariants as arrival
 use Rattle.zre_mailbox.specs.Conn.{identity_in}
 use Rattle.zre_mailbox.specs.Talk.{Said, Arrived, Fault, arrivals, fault_in, fault_said, talk, is_traffic, AreTraffic, IsInOrder}
-use Rattle.zre_mailbox.proofs.Growing.{goes}
-use Rattle.zre_mailbox.proofs.Hearing.{identity_kept}
-use Rattle.zre_mailbox.proofs.InOrder.{in_order}
+use Rattle.zre_mailbox.proofs.TalkGrows.{goes}
+use Rattle.zre_mailbox.proofs.ConnAfterOctets.{introduced_stays}
+use Rattle.zre_mailbox.proofs.ArrivalsInOrder.{in_order}
 use Rattle.zre_msg.specs.declared.message.Message.{Message}
 use Rattle.zre_peer.specs.declared.causes.Cause.TheVariants as cause
 use Rattle.zre_peer.specs.Runs.{is_hello, due}
@@ -166,7 +166,7 @@ module _ (g : Config) (J : List Entry) where
   same_one d L K s o p i = ap (λ b. identity_in (arrivals g.id b)) s.bytes_are ∙ o d p (sym s.identity_is ∙ i)
 
   come : (H : List Mark) (e : Entry) → P H → P (Comes e ∷ H)
-  come H e o c p i = identity_kept g.id (bytes c H) (cond (was_opened c H) (piece_of c e.input) []) p (o c p i)
+  come H e o c p i = introduced_stays g.id (bytes c H) (cond (was_opened c H) (piece_of c e.input) []) p (o c p i)
 
   entry : (earlier : List Entry) (e : Entry) (later : List Entry) → IsEntry g J earlier e later → is_piece e.input ≡ false
       → P (Comes e ∷ chronicle g earlier) → P (after (at_input g e.input (chronicle g earlier) (Comes e ∷ chronicle g earlier)) (Comes e ∷ chronicle g earlier))

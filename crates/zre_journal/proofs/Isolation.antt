@@ -51,9 +51,9 @@ use Rattle.zre_journal.proofs.Moments.{identity_on}
 
 -- ---- who a connection is stays
 
-pub identity_kept : (c : ℕ) (p : PeerId) (hs H : List Mark) → Allowed hs H → identity c H ≡ Some p → identity c (after hs H) ≡ Some p
-identity_kept c p [] H a e = e
-identity_kept c p (h ∷ hs) H a e = identity_kept c p hs (h ∷ H) a.1 (identity_on c p h H a.0 e)
+pub identity_remains : (c : ℕ) (p : PeerId) (hs H : List Mark) → Allowed hs H → identity c H ≡ Some p → identity c (after hs H) ≡ Some p
+identity_remains c p [] H a e = e
+identity_remains c p (h ∷ hs) H a e = identity_remains c p hs (h ∷ H) a.1 (identity_on c p h H a.0 e)
 
 -- ---- all that octets of a connection say
 
@@ -82,8 +82,8 @@ module _ (g : Config) (c : ℕ) (who : Option PeerId) where
         let r = steps hs J q a in
         let rest = at_places g c all (after hs J) in
         let b = all_allowed all s.1 (after hs J) r in
-        let its_then : IsOf who c (after hs J) = λ i z. its i (ap (identity c) (after-append hs rest J) ∙ identity_kept c i rest (after hs J) b z) in
-        let here = place J q is one (λ i z. its_then i (identity_kept c i hs J a z)) its_then in
+        let its_then : IsOf who c (after hs J) = λ i z. its i (ap (identity c) (after-append hs rest J) ∙ identity_remains c i rest (after hs J) b z) in
+        let here = place J q is one (λ i z. its_then i (identity_remains c i hs J a z)) its_then in
         joined hs rest J here (each_place all s.1 (after hs J) r (kept hs J here is) (λ i z. its i (ap (identity c) (after-append hs rest J) ∙ z)))
 
 -- ---- the marks of a connection that isn't that of p
@@ -222,7 +222,7 @@ module _ (g : Config) (p : PeerId) (who : Option PeerId) (another : who ≡ Some
     spared_input c (input.Opened d) e its = choice (AreSpared p o) (is_new d K) _ _ (λ z. choice (AreSpared p o) (ltb (length (open_ones K)) CONNECTIONS) _ _ (λ y. (tt, tt)) (λ y. (tt, tt))) (λ z. tt)
     spared_input c (input.Piece d octets) e its = spared_places d (newly_completed g.id d H K) (newly_fine g.id d H K) K q is (subst (λ n. IsOf who n (after (at_input g (input.Piece d octets) H K) K)) (eqb-true c d e) its)
     spared_input c (input.Shut d) e its = choice (AreSpared p o) (is_open d K) _ _
-        (λ z. All-join (Spares p o) (end_of_run g (runs d K) cause.Shut) _ (spared_run K q is d cause.Shut (λ r y. its r (identity_kept c r (at_input g (input.Shut d) H K) K (input_allowed g (input.Shut d) H K q) (ap (λ n. identity n K) (eqb-true c d e) ∙ y)))) (tt, tt)) (λ z. tt)
+        (λ z. All-join (Spares p o) (end_of_run g (runs d K) cause.Shut) _ (spared_run K q is d cause.Shut (λ r y. its r (identity_remains c r (at_input g (input.Shut d) H K) K (input_allowed g (input.Shut d) H K q) (ap (λ n. identity n K) (eqb-true c d e) ∙ y)))) (tt, tt)) (λ z. tt)
     spared_input c (input.Datagram from x) e its = let z : true ≡ false = sym e in cc
     spared_input c (input.Linked x) e its = let z : true ≡ false = sym e in cc
     spared_input c (input.Reply x y) e its = let z : true ≡ false = sym e in cc

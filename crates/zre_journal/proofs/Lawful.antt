@@ -5,7 +5,7 @@ use Rattle.zre_msg.specs.declared.message.Message.{Message}
 use Rattle.zre_outside.specs.declared.entry.Entry.{Entry}
 use Rattle.zre_peer.specs.Runs.{may_follow, is_hello, due, in_order}
 use Rattle.zre_peer.specs.Views.{view_of, is_small}
-use Rattle.zre_peer.proofs.Standing.{in_order-push}
+use Rattle.zre_peer.proofs.RunsAfterMessages.{in_order-push}
 use Rattle.zre_values.specs.declared.settings.Settings.{Settings as Config}
 use Rattle.zre_journal.specs.Chronicle.{Mark, Starts, Counts, Ends, ever, followed}
 use Rattle.zre_journal.specs.Connections.{is_end_of, has_ended, started}

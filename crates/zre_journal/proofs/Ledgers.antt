@@ -7,7 +7,7 @@ use Rattle.zre_peer.specs.declared.causes.Cause.TheVariants as cause
 use Rattle.zre_peer.specs.Ledger.{IsNumbered, IsPicked, IsNear, ArePicked}
 use Rattle.zre_peer.specs.Runs.{due, is_hello, told}
 use Rattle.zre_peer.specs.Views.{view_of, is_small}
-use Rattle.zre_peer.proofs.Ledgers.{apart, number_at, in_turn}
+use Rattle.zre_peer.proofs.RunsOfNumberedLists.{apart, number_at, in_turn}
 use Rattle.zre_values.specs.declared.settings.Settings.{Settings as Config}
 use Rattle.zre_journal.specs.Arrivals.{answer_to, at_message}
 use Rattle.zre_journal.specs.Chronicle.{Mark, Counts, Ends}

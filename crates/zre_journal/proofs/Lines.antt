@@ -2,7 +2,7 @@
 use Rattle.std.proofs.Common.{◌≡◌, ℕ, Bool, true, false, cond, eqb, List, [], ◌∷◌, ◌++◌, Option, Some, None, refl, ap, ◌∙◌}
 use Rattle.zre_msg.specs.declared.message.Body.{Body}
 use Rattle.zre_link.specs.Text.{Member, Says, Pongs, bodies_in}
-use Rattle.zre_link.proofs.Numbered.{bodies-more, bodies-pongs}
+use Rattle.zre_link.proofs.AppendedMembers.{bodies-more, bodies-pongs}
 use Rattle.zre_journal.specs.Chronicle.{Mark, Puts, PutsPong, each, followed}
 use Rattle.zre_journal.specs.Links.{line, bodies}
 

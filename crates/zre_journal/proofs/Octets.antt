@@ -6,7 +6,7 @@ use Rattle.std.specs.List.{list_any}
 use Rattle.zre_values.specs.declared.limits.TheConstants.{CONNECTIONS}
 use Rattle.zre_zmtp.specs.declared.fault.ZmtpFault.{ZmtpFault}
 use Rattle.zre_mailbox.specs.Talk.{Said, Arrived, Fault, completed as completed_by, talk, arrivals, fault_in, fault_said}
-use Rattle.zre_mailbox.proofs.Growing.{goes, nothing_said}
+use Rattle.zre_mailbox.proofs.TalkGrows.{goes, nothing_said}
 use Rattle.zre_msg.specs.declared.message.Message.{Message}
 use Rattle.zre_outside.specs.declared.entry.Entry.{Entry}
 use Rattle.zre_outside.specs.declared.entry.Input.{Input}

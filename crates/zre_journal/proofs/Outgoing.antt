@@ -14,7 +14,7 @@ use Rattle.zre_zmtp.specs.Written.{own_greeting, ready_body, ready_frame, pong_f
 use Rattle.zre_link.specs.Heard.{awaited}
 use Rattle.zre_link.specs.Link.{gate_at, gate_of}
 use Rattle.zre_link.specs.Text.{Says, Pongs, Member, next_message, octets_from, text_of}
-use Rattle.zre_link.proofs.Numbered.{text_more, text_pongs}
+use Rattle.zre_link.proofs.AppendedMembers.{text_more, text_pongs}
 use Rattle.zre_msg.specs.Spelling.{octets}
 use Rattle.zre_outside.specs.declared.entry.Entry.{Entry}
 use Rattle.zre_outside.specs.declared.entry.Input.{Input}

@@ -36,7 +36,7 @@ use Rattle.zre_journal.specs.Links.{line, unsent}
 use Rattle.zre_journal.specs.Peers.{Life, lives, life, life_of, births, counted}
 use Rattle.zre_journal.specs.Proper.{IsProper}
 use Rattle.zre_journal.specs.Pushes.{push}
-use Rattle.zre_journal.proofs.Isolation.{identity_kept, left_alone, itself_kept, IsOf, each_place}
+use Rattle.zre_journal.proofs.Isolation.{identity_remains, left_alone, itself_kept, IsOf, each_place}
 use Rattle.zre_journal.proofs.JoinedEntries.{after-append}
 use Rattle.zre_journal.proofs.Known.{known_of, same_id, id_of, newborn_known}
 use Rattle.zre_journal.proofs.NumberedLists.{eqb-comm, found_passes, some_is, any_left, none_any}
@@ -173,7 +173,7 @@ module _ (g : Config) (c : ℕ) (who : Option PeerId) where
         subst (λ n. IsOf who c (after (at_places g n (newly_completed g.id n H K) K) K) → Done (at_places g n (newly_completed g.id n H K) K) K) (eqb-true c d e)
         (λ t. done_places (newly_completed g.id c H K) (newly_fine g.id c H K) K q t) its
     done_input (input.Shut d) e its = choice (λ hs. Done hs K) (is_open d K) _ _
-        (λ z. let same : d ≡ c = sym (eqb-true c d e) in after_run K q d cause.Shut (IsShut d) (λ r y. its r (identity_kept c r (at_input g (input.Shut d) H K) K (input_allowed g (input.Shut d) H K q) (ap (λ n. identity n K) (sym same) ∙ y))) same (λ k. same)) (λ z. tt)
+        (λ z. let same : d ≡ c = sym (eqb-true c d e) in after_run K q d cause.Shut (IsShut d) (λ r y. its r (identity_remains c r (at_input g (input.Shut d) H K) K (input_allowed g (input.Shut d) H K q) (ap (λ n. identity n K) (sym same) ∙ y))) same (λ k. same)) (λ z. tt)
     done_input (input.Datagram from x) e its = let z : true ≡ false = sym e in cc
     done_input (input.Linked x) e its = let z : true ≡ false = sym e in cc
     done_input (input.Reply x y) e its = let z : true ≡ false = sym e in cc
@@ -292,7 +292,7 @@ module _ (g : Config) (c : ℕ) (who : Option PeerId) where
     gives_way p (Shakes e r ∷ hs) X m a none some there =
         let me : eqb c e ≡ true = eq-eqb c e (sym a.0.0) in
         let now : identity c (Shakes e r ∷ X) ≡ Some r = rw me refl in
-        let both_ : Some r ≡ Some p = sym (identity_kept c r hs (Shakes e r ∷ X) m.1 now) ∙ some in
+        let both_ : Some r ≡ Some p = sym (identity_remains c r hs (Shakes e r ∷ X) m.1 now) ∙ some in
         let same : r ≡ p = cc in
         let off : eqb e d ≡ false = ne_eqb e d (λ q. other (sym q ∙ a.0.0)) in
         let test : (not (eqb e d) && is_same r (identity d X)) ≡ true = rw (off, there) (bytes_eq-same r.0 p.0 (ap (λ (i : PeerId). i.0) same)) in

@@ -7,7 +7,7 @@ use Rattle.std.specs.List.{AllByRecursion}
 use Rattle.zre_outside.specs.declared.entry.Entry.{Entry}
 use Rattle.zre_mailbox.specs.declared.arrival.Arrival.TheVariants as arrival
 use Rattle.zre_mailbox.specs.Talk.{Said, Arrived, completed as completed_by, talk}
-use Rattle.zre_mailbox.proofs.Growing.{goes}
+use Rattle.zre_mailbox.proofs.TalkGrows.{goes}
 use Rattle.zre_msg.specs.declared.message.Message.{Message}
 use Rattle.zre_peer.specs.Ledger.{IsPicked, ArePicked}
 use Rattle.zre_values.specs.declared.settings.Settings.{Settings as Config}

@@ -21,7 +21,7 @@ use Rattle.zre_mailbox.specs.declared.arrival.Arrival.{Arrival}
 use Rattle.zre_mailbox.specs.Talk.{Said, Arrived, Fault, peer_of, arrival_of, arrivals_in, arrivals, fault_in, fault_said, talk, AreTraffic, IsInOrder}
 use Rattle.zre_journal.specs.Chronicle.{Mark}
 use Rattle.zre_journal.specs.Heard.{bytes, newly_completed}
-use Rattle.zre_mailbox.proofs.InOrder.{in_order}
+use Rattle.zre_mailbox.proofs.ArrivalsInOrder.{in_order}
 use Rattle.zre_journal.specs.Connections.{identity}
 use Rattle.zre_zmtp.specs.declared.item.What.TheVariants as says
 use Rattle.zre_mailbox.specs.declared.arrival.Arrival.TheVariants as arrival

@@ -36,7 +36,7 @@ use Rattle.zre_peer.specs.declared.causes.CloseWhy.TheVariants as close
 use Rattle.zre_peer.specs.declared.causes.RefuseWhy.TheVariants as refuse
 use Rattle.zre_peer.specs.Runs.{is_hello, due}
 use Rattle.zre_peer.specs.Views.{view_of, is_small}
-use Rattle.zre_peer.proofs.Limits.{length-without}
+use Rattle.zre_peer.proofs.ViewsWithinLimits.{length-without}
 use Rattle.zre_values.specs.declared.settings.Settings.{Settings as Config}
 use Rattle.zre_journal.specs.Arrivals.{at_opened, end_of_run, at_shut, taken_over, start_unknown, start, at_first, answer_to, at_later, at_message, at_shaken, at_said, at_place}
 use Rattle.zre_journal.specs.Chronicle.{Mark, Comes, Closes, ClosesAtStop, Ends, IsEvasive, Puts, PutsPong, Joins, Leaves, Starts, Counts, Shakes, Refuses, after, followed}

@@ -13,8 +13,8 @@ use Rattle.zre_peer.specs.declared.view.View.{View}
 use Rattle.zre_peer.specs.Members.{with_header}
 use Rattle.zre_peer.specs.Runs.{is_hello}
 use Rattle.zre_peer.specs.Views.{after, view_of, is_small}
-use Rattle.zre_peer.proofs.Standing.{view_of_more}
-use Rattle.zre_peer.proofs.Named.{later_keeps}
+use Rattle.zre_peer.proofs.RunsAfterMessages.{view_of_more}
+use Rattle.zre_peer.proofs.LinesAfterHello.{later_keeps}
 use Rattle.zre_journal.specs.Held.{header_octets, view_octets}
 use Rattle.zre_journal.proofs.Fields.{hello_octets}
 

@@ -8,10 +8,10 @@ use Rattle.zre_msg.specs.declared.message.Body.{Body}
 use Rattle.zre_msg.specs.declared.message.Message.{Message}
 use Rattle.zre_zmtp.specs.Written.{pong_frame}
 use Rattle.zre_link.specs.Text.{Member, Says, Pongs, text_of, next_message, size_of}
-use Rattle.zre_link.proofs.Numbered.{text_more, text_pongs}
+use Rattle.zre_link.proofs.AppendedMembers.{text_more, text_pongs}
 use Rattle.zre_peer.specs.Runs.{is_hello}
 use Rattle.zre_peer.specs.Views.{view_of, is_small}
-use Rattle.zre_peer.proofs.Limits.{length-without}
+use Rattle.zre_peer.proofs.ViewsWithinLimits.{length-without}
 use Rattle.zre_values.specs.declared.settings.Settings.{Settings as Config}
 use Rattle.zre_journal.specs.Chronicle.{Mark, Comes, Starts, Counts, Puts, PutsPong, Sends, Joins, Leaves, Stops, after, ever, followed}
 use Rattle.zre_journal.specs.Config.{CanBe}
