@@ -4,7 +4,7 @@ use Rattle.std.specs.List.{AllByRecursion}
 use Rattle.zre_msg.specs.declared.message.Body.{Body}
 use Rattle.zre_peer.specs.Runs.{is_hello}
 use Rattle.zre_values.specs.declared.settings.Settings.{Settings as Config}
-use Rattle.zre_journal.specs.Chronicle.{Mark, Comes, Opens, TurnsAway, Shakes, Starts, Counts, Closes, IsShut, ClosesAtStop, Born, Puts, PutsPong, Links, Joins, Leaves, Stops, ever}
+use Rattle.zre_journal.specs.Chronicle.{Mark, Comes, Opens, TurnsAway, Identifies, Starts, Counts, Closes, IsShut, ClosesAtStop, Born, Puts, PutsPong, Links, Joins, Leaves, Stops, ever}
 use Rattle.zre_journal.specs.Connections.{is_open, is_new, refuses}
 use Rattle.zre_journal.specs.Links.{is_linked}
 use Rattle.zre_journal.specs.Proper.{IsProper}
@@ -12,7 +12,7 @@ use Rattle.zre_values.specs.declared.limits.TheConstants.{MESSAGE_OCTETS}
 use Rattle.zre_journal.specs.Config.{CanBe}
 use Rattle.zre_peer.specs.Views.{after as reading}
 use Rattle.zre_peer.specs.declared.view.View.{View}
-use Rattle.zre_journal.proofs.Fields.{hello_octets}
+use Rattle.zre_journal.proofs.HelloOctets.{hello_octets}
 use Rattle.zre_journal.proofs.WhenMarksCome.{May, Allowed, step, Each, each_map}
 use Rattle.zre_journal.proofs.WithinLimits.{HasRoom, Fits, AllFit, room-more}
 use Rattle.zre_journal.proofs.SoundMarks.{Sound, AreSound, IsOther, AreOthers, others_more}
@@ -50,7 +50,7 @@ module _ (g : Config) (w : Ground) (tells : Bool) where
   Also (Comes e) H = ⊥
   Also (Opens c) H = w.of c ≡ true
   Also (TurnsAway c) H = is_new c H ≡ true
-  Also (Shakes c p) H = (w.of c ≡ true) × IsOther g p
+  Also (Identifies c p) H = (w.of c ≡ true) × IsOther g p
   Also (Starts c l m) H = (w.of c ≡ true) × (ever (refuses c) H ≡ false) × (hello_octets m.body ≤ MESSAGE_OCTETS)
   Also (Counts c l m) H = w.of c ≡ true
   Also (Closes c why) H = is_open c H ≡ true
@@ -76,7 +76,7 @@ module _ (g : Config) (w : Ground) (tells : Bool) where
   sound_of : w.stops ≡ false → (h : Mark) (H : List Mark) → AreOthers g H → Also h H → Sound g h H
   sound_of on (Comes e) H o a = a
   sound_of on (TurnsAway c) H o a = a
-  sound_of on (Shakes c p) H o a = a.1
+  sound_of on (Identifies c p) H o a = a.1
   sound_of on (Closes c why) H o a = a
   sound_of on (IsShut c) H o a = a
   sound_of on (ClosesAtStop c) H o a = a
@@ -114,7 +114,7 @@ module _ (g : Config) (w : Ground) (tells : Bool) where
       one : (h : Mark) → Also h H → Quiet d h
       one (Comes e) a = a
       one (Opens c) a = other c a
-      one (Shakes c p) a = other c a.0
+      one (Identifies c p) a = other c a.0
       one (Starts c l m) a = other c a.0
       one (Counts c l m) a = other c a
       one _ a = tt

@@ -2,14 +2,14 @@
 -- a mark that neither opens d, nor comes of what it says
 use Rattle.std.proofs.Common.{ℕ, Bool, false, eqb, List, ◌≡◌}
 use Rattle.std.specs.List.{AllByRecursion}
-use Rattle.zre_journal.specs.Chronicle.{Mark, Comes, Opens, Shakes, Starts, Counts}
+use Rattle.zre_journal.specs.Chronicle.{Mark, Comes, Opens, Identifies, Starts, Counts}
 use Rattle.zre_outside.specs.declared.entry.Input.{Input}
 use Rattle.zre_outside.specs.declared.entry.Input.TheVariants as input
 
 abbrev pub Quiet : ℕ → Mark → Type 0
 Quiet d (Comes e) = ⊥
 Quiet d (Opens c) = eqb d c ≡ false
-Quiet d (Shakes c p) = eqb d c ≡ false
+Quiet d (Identifies c p) = eqb d c ≡ false
 Quiet d (Starts c l m) = eqb d c ≡ false
 Quiet d (Counts c l m) = eqb d c ≡ false
 Quiet d _ = Unit {0}

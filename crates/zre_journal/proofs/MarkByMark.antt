@@ -19,10 +19,10 @@ use Rattle.zre_journal.specs.Proper.{IsProper}
 use Rattle.zre_journal.specs.Told.{told, told_at}
 use Rattle.zre_journal.proofs.ProperChronicles.{empty}
 use Rattle.zre_journal.proofs.JoinedEntries.{after-append, told-append, done-append}
-use Rattle.zre_journal.proofs.Known.{end_all}
+use Rattle.zre_journal.proofs.KnownPeers.{end_all}
 use Rattle.zre_journal.proofs.SoundMarks.{Sound, AreSound, AreOthers, others_more, others_after}
 use Rattle.zre_journal.proofs.WhenMarksCome.{May, Allowed, step, steps, Each}
-use Rattle.zre_journal.proofs.Stopping.{at_end, none_known, none_open}
+use Rattle.zre_journal.proofs.NothingAfterStop.{at_end, none_known, none_open}
 use Rattle.zre_journal.proofs.SaidOnConnections.{input_allowed, input_sound}
 use Rattle.zre_journal.proofs.ProperPeers.{Comes-proper}
 use Rattle.zre_journal.proofs.EachMarkOfEntries.{Brought, silence, allowed, sound}

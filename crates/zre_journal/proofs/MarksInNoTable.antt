@@ -30,9 +30,9 @@ use Rattle.zre_journal.specs.Pushes.{push, push_all}
 use Rattle.zre_journal.specs.Tables.{closed_of, closed_in, ignored_of, born_of, evasive_of, evasive_in}
 use Rattle.zre_journal.specs.Ticks.{is_silent, is_evasive, is_stale, probe, at_tick}
 use Rattle.zre_journal.proofs.NumberedLists.{All-join}
-use Rattle.zre_journal.proofs.Turns.{none_there}
+use Rattle.zre_journal.proofs.BroughtInTurn.{none_there}
 use Rattle.zre_journal.proofs.WhenMarksCome.{choice}
-use Rattle.zre_journal.proofs.Ticking.{E, F, C}
+use Rattle.zre_journal.proofs.MarksOfTicks.{E, F, C}
 
 -- ---- marks that stand in no table
 

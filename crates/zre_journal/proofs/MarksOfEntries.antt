@@ -36,16 +36,16 @@ use Rattle.zre_peer.specs.declared.causes.RefuseWhy.TheVariants as refuse
 use Rattle.zre_msg.specs.declared.message.Body.TheVariants as body
 use Rattle.zre_outside.specs.declared.entry.Input.TheVariants as input
 use Rattle.zre_journal.proofs.NumberedLists.{All-kept, Apart-kept, each_there, left_there}
-use Rattle.zre_journal.proofs.Known.{known_of, AreKnown, each_known, newborn_known, still_known, end_all, ends_keep, ends_open}
-use Rattle.zre_journal.proofs.Idle.{AreNoStarts, none_and_none, ends_start_none, all_idle, idle_then}
-use Rattle.zre_journal.proofs.Introduction.{introduces}
+use Rattle.zre_journal.proofs.KnownPeers.{known_of, AreKnown, each_known, newborn_known, still_known, end_all, ends_keep, ends_open}
+use Rattle.zre_journal.proofs.IdleConnections.{AreNoStarts, none_and_none, ends_start_none, all_idle, idle_then}
+use Rattle.zre_journal.proofs.HelloFits.{introduces}
 use Rattle.zre_journal.proofs.WithinLimits.{can_introduce, pong_more}
 use Rattle.zre_journal.proofs.JoinedEntries.{after-append}
-use Rattle.zre_journal.proofs.ProperKept.{run_known}
+use Rattle.zre_journal.proofs.ProperAfterMarks.{run_known}
 use Rattle.zre_journal.proofs.WhenMarksCome.{Each, both, choice}
 use Rattle.zre_journal.proofs.SoundMarks.{IsOther, AreOthers}
 use Rattle.zre_journal.proofs.HeardUnchanged.{is_of}
-use Rattle.zre_journal.proofs.Ticks.{AreEntered, expiring, wavering, stale, expiring_apart, wavering_apart, stale_apart, wavering_known, expiring_known, wavering_entered, stale_idle}
+use Rattle.zre_journal.proofs.ExpiringAtTicks.{AreEntered, expiring, wavering, stale, expiring_apart, wavering_apart, stale_apart, wavering_known, expiring_known, wavering_entered, stale_idle}
 use Rattle.zre_journal.proofs.EachMarkOfEntries.{Ground, IsMild, Brought}
 use Rattle.zre_peer.specs.declared.causes.RefuseWhy.{RefuseWhy}
 

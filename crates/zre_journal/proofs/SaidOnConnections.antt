@@ -18,7 +18,7 @@ use Rattle.zre_journal.specs.Connections.{is_open, identity, started, runs, refu
 use Rattle.zre_journal.specs.Peers.{Life, lives, life, life_of, births, runner, counted}
 use Rattle.zre_journal.specs.Proper.{IsProper}
 use Rattle.zre_journal.specs.Pushes.{hello}
-use Rattle.zre_journal.specs.Arrivals.{taken_over, start_unknown, start, at_first, answer_to, at_later, at_message, at_shaken, at_said, at_place, at_places}
+use Rattle.zre_journal.specs.Arrivals.{taken_over, start_unknown, start, at_first, answer_to, at_later, at_message, at_ready, at_said, at_place, at_places}
 use Rattle.zre_peer.specs.declared.causes.Cause.{Cause}
 use Rattle.zre_peer.specs.declared.causes.IgnoreWhy.{IgnoreWhy}
 use Rattle.zre_beacon.specs.Beacon.{beacon_in}
@@ -33,17 +33,17 @@ use Rattle.zre_peer.specs.declared.causes.Cause.TheVariants as cause
 use Rattle.zre_peer.specs.declared.causes.CloseWhy.TheVariants as close
 use Rattle.zre_peer.specs.declared.causes.IgnoreWhy.TheVariants as ignore
 use Rattle.zre_outside.specs.declared.entry.Input.TheVariants as input
-use Rattle.zre_journal.proofs.ProperKept.{known_lives, run_known}
-use Rattle.zre_journal.proofs.Known.{known_of, id_of, newborn_known}
-use Rattle.zre_journal.proofs.Idle.{gave_way, other_open}
+use Rattle.zre_journal.proofs.ProperAfterMarks.{known_lives, run_known}
+use Rattle.zre_journal.proofs.KnownPeers.{known_of, id_of, newborn_known}
+use Rattle.zre_journal.proofs.IdleConnections.{gave_way, other_open}
 use Rattle.zre_journal.proofs.WhenMarksCome.{MayStart, Allowed, steps, Each, both, choice}
 use Rattle.zre_journal.proofs.WithinLimits.{HasRoom, AllFit}
 use Rattle.zre_journal.proofs.SoundMarks.{AreSound, AreOthers}
 use Rattle.zre_journal.proofs.HeardUnchanged.{AreQuiet, is_of}
-use Rattle.zre_journal.proofs.Fields.{hello_octets}
+use Rattle.zre_journal.proofs.HelloOctets.{hello_octets}
 use Rattle.zre_journal.proofs.EachMarkOfEntries.{Ground, Brought, allowed, sound, fit, quiet}
 use Rattle.zre_journal.proofs.MarksOfEntries.{push_brought, run_and, tick_brought, Outcome, plainly, start_of, then, all_brought, nothing, one, birth_brought, datagram_outcome, opened_outcome, shut_outcome, linked_outcome, reply_outcome, unlinked_outcome, took_outcome, command_outcome, stop_outcome, ground}
-use Rattle.zre_journal.proofs.Sayings.{MaySay, newly_fine}
+use Rattle.zre_journal.proofs.SaidWithinLimit.{MaySay, newly_fine}
 
 -- one that runs no peer and isn't ignored was not refused, and has started none
 pub unused : (c : ℕ) (H : List Mark) → is_ignored c H ≡ false → runs c H ≡ None → (ever (refuses c) H ≡ false) × (started c H ≡ None)
@@ -142,10 +142,10 @@ module _ (g : Config) (w : Ground) (K : List Mark) (q : IsProper K) (c : ℕ) (o
 
   -- ---- READY, and all else
 
-  shaken_outcome : (p : PeerId) → bytes_eq p.0 g.id.0 ≡ false → O (at_shaken g c p (identity c K) K)
-  shaken_outcome p other = by (identity c K) refl
+  ready_outcome : (p : PeerId) → bytes_eq p.0 g.id.0 ≡ false → O (at_ready g c p (identity c K) K)
+  ready_outcome p other = by (identity c K) refl
     where
-      by : (o : Option PeerId) → identity c K ≡ o → O (at_shaken g c p o K)
+      by : (o : Option PeerId) → identity c K ≡ o → O (at_ready g c p o K)
       by (Some i) e = nothing g w K q
       by None e =
           let v = gave_way g K q p c (other_with p c K) refl there in
@@ -160,7 +160,7 @@ module _ (g : Config) (w : Ground) (K : List Mark) (q : IsProper K) (c : ℕ) (o
 
   said_outcome : is_ignored c K ≡ false → (said : Said) → MaySay g.id said → O (at_said g c said K)
   said_outcome i (Arrived arrival.Greeted) s = one g w K q (Greets c) (λ t. (tt, tt))
-  said_outcome i (Arrived (arrival.Shaken p)) s = shaken_outcome p s.1
+  said_outcome i (Arrived (arrival.Shaken p)) s = ready_outcome p s.1
   said_outcome i (Arrived (arrival.Ping t)) s = one g w K q (AnswersPing c t) (λ z. (tt, tt))
   said_outcome i (Arrived (arrival.Message m)) s = message_outcome i m s.0
   said_outcome i (Fault f) s = plainly (λ t. run_and g w t c cause.Fault (Closes c (close.Zmtp f)) K q there (λ H r o. (r, o)))

@@ -21,10 +21,10 @@ use Rattle.zre_journal.specs.Events.{chronicle}
 use Rattle.zre_journal.specs.Links.{groups, bodies, queued}
 use Rattle.zre_journal.specs.Speaking.{moment, SpokeTruly}
 use Rattle.zre_journal.specs.Truth.{own_view, only_begins_with_hello}
-use Rattle.zre_journal.proofs.Introduction.{small}
-use Rattle.zre_journal.proofs.Lines.{bodies_on, are_bodies}
-use Rattle.zre_journal.proofs.Sendable.{AreSent, are_sent, each_readable}
-use Rattle.zre_journal.proofs.Speaking.{Spoke, both_of}
+use Rattle.zre_journal.proofs.HelloFits.{small}
+use Rattle.zre_journal.proofs.BodiesOnLinks.{bodies_on, are_bodies}
+use Rattle.zre_journal.proofs.SentIsReadable.{AreSent, are_sent, each_readable}
+use Rattle.zre_journal.proofs.SpokenIsTrue.{Spoke, both_of}
 use Rattle.zre_journal.proofs.TrueOnLink.{told, view_told}
 use Rattle.zre_journal.proofs.ViewOctets.{fewer}
 

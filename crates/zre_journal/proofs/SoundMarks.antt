@@ -4,7 +4,7 @@ use Rattle.std.specs.Option.{option_or}
 use Rattle.std.specs.Str.{bytes_eq}
 use Rattle.zre_values.specs.declared.peer_id.PeerId.{PeerId}
 use Rattle.zre_values.specs.declared.settings.Settings.{Settings as Config}
-use Rattle.zre_journal.specs.Chronicle.{Mark, Comes, TurnsAway, Shakes, Closes, IsShut, ClosesAtStop, Born, Links, Stops, after}
+use Rattle.zre_journal.specs.Chronicle.{Mark, Comes, TurnsAway, Identifies, Closes, IsShut, ClosesAtStop, Born, Links, Stops, after}
 use Rattle.zre_journal.specs.Connections.{is_open, is_new, identity}
 use Rattle.zre_journal.specs.Links.{is_linked}
 use Rattle.zre_journal.proofs.WhenMarksCome.{Each}
@@ -17,7 +17,7 @@ module _ (g : Config) where
   abbrev pub Sound : Mark → List Mark → Type 0
   Sound (Comes e) H = ⊥
   Sound (TurnsAway c) H = is_new c H ≡ true
-  Sound (Shakes c p) H = IsOther p
+  Sound (Identifies c p) H = IsOther p
   Sound (Closes c why) H = is_open c H ≡ true
   Sound (IsShut c) H = is_open c H ≡ true
   Sound (ClosesAtStop c) H = is_open c H ≡ true
@@ -35,7 +35,7 @@ module _ (g : Config) where
   AreOthers H = (c : ℕ) (p : PeerId) → identity c H ≡ Some p → IsOther p
 
   pub others_more : (h : Mark) (H : List Mark) → Sound h H → AreOthers H → AreOthers (h ∷ H)
-  others_more (Shakes d i) H s o = λ c p. by c p (eqb c d)
+  others_more (Identifies d i) H s o = λ c p. by c p (eqb c d)
     where
       by : (c : ℕ) (p : PeerId) (b : Bool) → option_or (cond b (Some i) None) (identity c H) ≡ Some p → IsOther p
       by c p true e = let same : i ≡ p = cc in subst IsOther same s

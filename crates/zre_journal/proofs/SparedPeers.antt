@@ -11,7 +11,7 @@ use Rattle.zre_peer.specs.Members.{distinct}
 use Rattle.zre_peer.specs.Runs.{events_of}
 use Rattle.zre_peer.specs.declared.view.View.{View}
 use Rattle.zre_peer.specs.declared.event.Event.TheVariants as event
-use Rattle.zre_journal.specs.Chronicle.{Mark, Comes, Opens, TurnsAway, Greets, Shakes, AnswersPing, Starts, Counts, Ignores, Closes, IsShut, Born, Ends, Puts, after}
+use Rattle.zre_journal.specs.Chronicle.{Mark, Comes, Opens, TurnsAway, Greets, Identifies, AnswersPing, Starts, Counts, Ignores, Closes, IsShut, Born, Ends, Puts, after}
 use Rattle.zre_journal.specs.Happens.{has_stopped}
 use Rattle.zre_journal.specs.Isolation.{is_of_peer}
 use Rattle.zre_journal.specs.Links.{groups, status, line, is_linked, replies, taken}
@@ -19,7 +19,7 @@ use Rattle.zre_journal.specs.Peers.{Life, lives, life, life_of, runner, is_enter
 use Rattle.zre_journal.specs.Proper.{IsProper}
 use Rattle.zre_journal.specs.Told.{told, told_at, exit, by_message}
 use Rattle.zre_journal.proofs.WithinCounts.{AreNamed, named_more, found_kept, none_kept}
-use Rattle.zre_journal.proofs.Known.{same_id}
+use Rattle.zre_journal.proofs.KnownPeers.{same_id}
 use Rattle.zre_journal.proofs.NumberedLists.{found_passes}
 use Rattle.zre_journal.proofs.WhenMarksCome.{Allowed, step}
 use Rattle.zre_link.specs.Text.{Member}
@@ -34,7 +34,7 @@ abbrev pub Spares : PeerId → Option Life → Mark → Type 0
 Spares p o (Opens d) = Unit {0}
 Spares p o (TurnsAway d) = Unit {0}
 Spares p o (Greets d) = Unit {0}
-Spares p o (Shakes d r) = Unit {0}
+Spares p o (Identifies d r) = Unit {0}
 Spares p o (AnswersPing d t) = Unit {0}
 Spares p o (Starts d l m) = IsOff o l
 Spares p o (Counts d l m) = IsOff o l
@@ -100,7 +100,7 @@ module _ (p : PeerId) (v : Life) where
   mark_left (Opens d) H s = refl
   mark_left (TurnsAway d) H s = refl
   mark_left (Greets d) H s = refl
-  mark_left (Shakes d r) H s = refl
+  mark_left (Identifies d r) H s = refl
   mark_left (AnswersPing d t) H s = refl
   mark_left (Ignores d why) H s = refl
   mark_left (Closes d why) H s = refl
@@ -127,7 +127,7 @@ itself_mark : (p : PeerId) (o : Option Life) (h : Mark) (H : List Mark) → Spar
 itself_mark p o (Opens d) H s = refl
 itself_mark p o (TurnsAway d) H s = refl
 itself_mark p o (Greets d) H s = refl
-itself_mark p o (Shakes d r) H s = refl
+itself_mark p o (Identifies d r) H s = refl
 itself_mark p o (AnswersPing d t) H s = refl
 itself_mark p o (Starts d k m) H s = refl
 itself_mark p o (Counts d k m) H s = refl
@@ -175,7 +175,7 @@ module _ (p : PeerId) (o : Option Life) where
   none_of (Opens d) H n e s = refl
   none_of (TurnsAway d) H n e s = refl
   none_of (Greets d) H n e s = refl
-  none_of (Shakes d r) H n e s = refl
+  none_of (Identifies d r) H n e s = refl
   none_of (AnswersPing d t) H n e s = refl
   none_of (Starts d k m) H n e s = by (life k H) refl
     where

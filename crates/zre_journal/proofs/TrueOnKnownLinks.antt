@@ -18,7 +18,7 @@ use Rattle.zre_journal.specs.Commands.{has_group}
 use Rattle.zre_journal.specs.Truth.{TellsTruth, only_begins_with_hello}
 use Rattle.zre_journal.proofs.ProperChronicles.{empty, marks_allowed}
 use Rattle.zre_journal.proofs.JoinedEntries.{after-append}
-use Rattle.zre_journal.proofs.Lines.{are_bodies}
+use Rattle.zre_journal.proofs.BodiesOnLinks.{are_bodies}
 use Rattle.zre_journal.proofs.WhenMarksCome.{steps, choice}
 use Rattle.zre_journal.proofs.TrueOnLink.{told, once_more, once_less, apart_of, view_told, Truth, plain_step, plain_steps, born, changes}
 use Rattle.zre_journal.proofs.ProperPeers.{Comes-proper}

@@ -27,10 +27,10 @@ use Rattle.zre_journal.specs.Commands.{has_group}
 use Rattle.zre_journal.specs.Truth.{own_view, only_begins_with_hello}
 use Rattle.zre_journal.proofs.WithinCounts.{AtEnd, Front, Back, at_end}
 use Rattle.zre_journal.proofs.JoinedEntries.{after-append}
-use Rattle.zre_journal.proofs.Known.{life_stays}
-use Rattle.zre_journal.proofs.Lines.{bodies_on, are_bodies}
+use Rattle.zre_journal.proofs.KnownPeers.{life_stays}
+use Rattle.zre_journal.proofs.BodiesOnLinks.{bodies_on, are_bodies}
 use Rattle.zre_journal.proofs.NumberedLists.{eqb-comm, some_is, All-without}
-use Rattle.zre_journal.proofs.Standing.{none_left}
+use Rattle.zre_journal.proofs.KnownAreBorn.{none_left}
 use Rattle.zre_journal.proofs.ProperPeers.{known_lives}
 use Rattle.zre_journal.proofs.EachMarkOfEntries.{Plain, ArePlain}
 use Rattle.zre_journal.proofs.MarksOfEntries.{pushed}

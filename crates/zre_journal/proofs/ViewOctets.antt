@@ -16,7 +16,7 @@ use Rattle.zre_peer.specs.Views.{after, view_of, is_small}
 use Rattle.zre_peer.proofs.RunsAfterMessages.{view_of_more}
 use Rattle.zre_peer.proofs.LinesAfterHello.{later_keeps}
 use Rattle.zre_journal.specs.Held.{header_octets, view_octets}
-use Rattle.zre_journal.proofs.Fields.{hello_octets}
+use Rattle.zre_journal.proofs.HelloOctets.{hello_octets}
 
 -- the name, the endpoint and the headers of a view
 abbrev pub name_octets : View → ℕ

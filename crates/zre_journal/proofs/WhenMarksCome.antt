@@ -17,14 +17,14 @@ use Rattle.zre_peer.specs.declared.causes.CloseWhy.{CloseWhy}
 use Rattle.zre_peer.specs.declared.causes.CloseWhy.TheVariants as close
 use Rattle.zre_values.specs.declared.settings.Settings.{Settings as Config}
 use Rattle.zre_journal.specs.Arrivals.{end_of_run, taken_over, answer_to}
-use Rattle.zre_journal.specs.Chronicle.{Mark, Comes, Opens, TurnsAway, Greets, Shakes, AnswersPing, Starts, Counts, Ignores, Closes, IsShut, ClosesAtStop, Born, HearsBeacon, Ends, IsEvasive, Puts, PutsPong, Links, Sends, Joins, Leaves, Refuses, SendsBeacon, Stops, after}
+use Rattle.zre_journal.specs.Chronicle.{Mark, Comes, Opens, TurnsAway, Greets, Identifies, AnswersPing, Starts, Counts, Ignores, Closes, IsShut, ClosesAtStop, Born, HearsBeacon, Ends, IsEvasive, Puts, PutsPong, Links, Sends, Joins, Leaves, Refuses, SendsBeacon, Stops, after}
 use Rattle.zre_journal.specs.Connections.{open_ones, is_open, is_new, identity, started, runs, is_ignored, is_live, is_waiting, other_with}
 use Rattle.zre_journal.specs.Links.{line, unsent}
 use Rattle.zre_journal.specs.Pushes.{push}
 use Rattle.zre_journal.specs.Peers.{Life, lives, life_of, life, births, runner, counted}
 use Rattle.zre_journal.specs.Proper.{IsProper}
 use Rattle.zre_journal.proofs.NumberedLists.{some_is, All-join}
-use Rattle.zre_journal.proofs.ProperKept.{Opens-proper, TurnsAway-proper, Shakes-proper, Starts-proper, Counts-proper, Ignores-proper, Closes-proper, IsShut-proper, ClosesAtStop-proper, born-proper, Ends-proper}
+use Rattle.zre_journal.proofs.ProperAfterMarks.{Opens-proper, TurnsAway-proper, Identifies-proper, Starts-proper, Counts-proper, Ignores-proper, Closes-proper, IsShut-proper, ClosesAtStop-proper, born-proper, Ends-proper}
 use Rattle.zre_journal.proofs.ProperPeers.{known_lives, Comes-proper, Greets-proper, AnswersPing-proper, HearsBeacon-proper, IsEvasive-proper, Puts-proper, PutsPong-proper, Links-proper, Sends-proper, Joins-proper, Leaves-proper, Refuses-proper, SendsBeacon-proper, Stops-proper}
 
 -- a waiting connection, which is open and has started nothing, begins to run a known peer that nothing has run, its own, by a first message
@@ -64,7 +64,7 @@ pub record MayProbe (l : ℕ) (H : List Mark) : Type 0 where
 -- whether a mark may come after H
 abbrev pub May : Mark → List Mark → Type 0
 May (Opens c) H = MayOpen c H
-May (Shakes c p) H = (is_open c H ≡ true) × (identity c H ≡ None) × (other_with p c H ≡ None)
+May (Identifies c p) H = (is_open c H ≡ true) × (identity c H ≡ None) × (other_with p c H ≡ None)
 May (Starts c l m) H = MayStart c l m H
 May (Counts c l m) H = MayCount c l m H
 May (Ignores c why) H = is_waiting c H ≡ true
@@ -153,7 +153,7 @@ step (Comes e) H p m = Comes-proper H p e
 step (Opens c) H p m = Opens-proper H p c m.is_fresh
 step (TurnsAway c) H p m = TurnsAway-proper H p c
 step (Greets c) H p m = Greets-proper H p c
-step (Shakes c i) H p m = Shakes-proper H p c i m.0 m.1 m.2
+step (Identifies c i) H p m = Identifies-proper H p c i m.0 m.1 m.2
 step (AnswersPing c t) H p m = AnswersPing-proper H p c t
 step (Starts c l s) H p m = Starts-proper H p c l s m.who m.is_there m.idle m.known m.its_own m.free
 step (Counts c l s) H p m = Counts-proper H p c l s m.running

@@ -25,7 +25,7 @@ use Rattle.zre_peer.specs.declared.causes.Cause.{Cause}
 use Rattle.zre_peer.specs.declared.causes.Cause.TheVariants as cause
 use Rattle.zre_peer.specs.declared.causes.CloseWhy.TheVariants as close
 use Rattle.zre_values.specs.declared.settings.Settings.{Settings as Config}
-use Rattle.zre_journal.specs.Arrivals.{end_of_run, taken_over, start_unknown, start, at_first, answer_to, at_later, at_message, at_shaken, at_said, at_place}
+use Rattle.zre_journal.specs.Arrivals.{end_of_run, taken_over, start_unknown, start, at_first, answer_to, at_later, at_message, at_ready, at_said, at_place}
 use Rattle.zre_journal.specs.Chronicle.{Mark, Sends, Comes, Opens, TurnsAway, IsShut, Greets, AnswersPing, Ends, IsEvasive, PutsPong, Closes, ClosesAtStop, after, in_turn}
 use Rattle.zre_journal.specs.Commands.{has_group, is_too_big, is_member, at_whisper, at_stop, at_command}
 use Rattle.zre_journal.specs.Connections.{open_ones, identity, runs, is_live, other_with}
@@ -38,7 +38,7 @@ use Rattle.zre_journal.specs.Pushes.{push, push_all}
 use Rattle.zre_journal.specs.Ticks.{is_silent, is_evasive, is_stale, at_tick}
 use Rattle.zre_journal.proofs.NumberedLists.{All-join}
 use Rattle.zre_journal.proofs.WhenMarksCome.{choice}
-use Rattle.zre_journal.proofs.Ticking.{E, F, C}
+use Rattle.zre_journal.proofs.MarksOfTicks.{E, F, C}
 
 -- whether an entry is a tick, which connection it has octets of, and whether it says that octets of a link went out
 pub record Kind : Type 0 where
@@ -165,13 +165,13 @@ module _ (g : Config) (t : Kind) where
     mild_message c None m = mild_first c m (identity c K)
     mild_message c (Some l) m = mild_later c l m
 
-    pub mild_shaken : (c : ℕ) (p : PeerId) (o : Option PeerId) → AreMild t (at_shaken g c p o K)
-    mild_shaken c p (Some i) = tt
-    mild_shaken c p None = All-join (Mild t) (taken_over g (other_with p c K) K) _ (mild_taken (other_with p c K) K) (tt, tt)
+    pub mild_ready : (c : ℕ) (p : PeerId) (o : Option PeerId) → AreMild t (at_ready g c p o K)
+    mild_ready c p (Some i) = tt
+    mild_ready c p None = All-join (Mild t) (taken_over g (other_with p c K) K) _ (mild_taken (other_with p c K) K) (tt, tt)
 
     mild_said : (c : ℕ) (one : Said) → t.hears c ≡ true → AreMild t (at_said g c one K)
     mild_said c (Arrived arrival.Greeted) own = (own, tt)
-    mild_said c (Arrived (arrival.Shaken p)) own = mild_shaken c p (identity c K)
+    mild_said c (Arrived (arrival.Shaken p)) own = mild_ready c p (identity c K)
     mild_said c (Arrived (arrival.Ping x)) own = (own, tt)
     mild_said c (Arrived (arrival.Message m)) own = mild_message c (runs c K) m
     mild_said c (Fault f) own = All-join (Mild t) (end_of_run g (runs c K) cause.Fault) _ (mild_run (runs c K) cause.Fault (λ l. tt)) (tt, tt)

@@ -14,7 +14,7 @@ use Rattle.zre_journal.specs.Events.{chronicle}
 use Rattle.zre_journal.specs.Proper.{IsProper}
 use Rattle.zre_journal.specs.Laws.{AreFew}
 use Rattle.zre_journal.proofs.ProperChronicles.{always}
-use Rattle.zre_journal.proofs.Known.{same_id, life_stays}
+use Rattle.zre_journal.proofs.KnownPeers.{same_id, life_stays}
 use Rattle.zre_journal.proofs.NumberedLists.{eqb-comm, found_before}
 use Rattle.zre_journal.proofs.WhenMarksCome.{May, step}
 use Rattle.zre_journal.proofs.ProperPeers.{known_lives}

@@ -19,8 +19,8 @@ use Rattle.zre_journal.specs.Connections.{refuses}
 use Rattle.zre_journal.specs.Peers.{counted, view}
 use Rattle.zre_journal.specs.Links.{groups, line, taken, unsent}
 use Rattle.zre_journal.specs.Proper.{IsProper}
-use Rattle.zre_journal.proofs.Fields.{hello_octets}
-use Rattle.zre_journal.proofs.Introduction.{CanIntroduce, new-short}
+use Rattle.zre_journal.proofs.HelloOctets.{hello_octets}
+use Rattle.zre_journal.proofs.HelloFits.{CanIntroduce, new-short}
 use Rattle.zre_journal.proofs.NumberedLists.{All-append, All-without}
 use Rattle.zre_journal.proofs.WhenMarksCome.{May, Allowed, step, Each}
 use Rattle.zre_journal.proofs.ViewOctets.{IsShortView, blank-short, first-short, later-short}

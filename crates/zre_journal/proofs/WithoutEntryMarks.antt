@@ -15,7 +15,7 @@ use Rattle.zre_peer.specs.declared.causes.Cause.{Cause}
 use Rattle.zre_peer.specs.declared.causes.Cause.TheVariants as cause
 use Rattle.zre_peer.specs.declared.causes.CloseWhy.TheVariants as close
 use Rattle.zre_peer.specs.declared.causes.IgnoreWhy.TheVariants as ignore
-use Rattle.zre_journal.specs.Chronicle.{Mark, Comes, Opens, Shakes, Starts, Counts, Ignores, Closes, IsShut, ClosesAtStop, Born, Ends, IsEvasive, Puts, Sends, Joins, Leaves, after, latest, followed, each, ever}
+use Rattle.zre_journal.specs.Chronicle.{Mark, Comes, Opens, Identifies, Starts, Counts, Ignores, Closes, IsShut, ClosesAtStop, Born, Ends, IsEvasive, Puts, Sends, Joins, Leaves, after, latest, followed, each, ever}
 use Rattle.zre_journal.specs.Config.{own_endpoint}
 use Rattle.zre_journal.specs.Connections.{open_ones, is_open, identity, identity_at, started, start_at, is_end_of, has_ended, runs, refuses, was_used, is_ignored, is_live, other_with, is_same, others}
 use Rattle.zre_journal.specs.Cutting.{is_entry, but_entries}
@@ -24,7 +24,7 @@ use Rattle.zre_journal.specs.Links.{groups, status, line, put_on, taken, unsent}
 use Rattle.zre_journal.specs.Pushes.{hello, push, birth}
 use Rattle.zre_journal.specs.Told.{told, told_at, by_message, exit, becoming_evasive}
 use Rattle.zre_values.specs.Lists.{without}
-use Rattle.zre_journal.specs.Arrivals.{end_of_run, taken_over, start_unknown, start, at_first, answer_to, at_later, at_message, at_shaken, at_said, at_place, at_places}
+use Rattle.zre_journal.specs.Arrivals.{end_of_run, taken_over, start_unknown, start, at_first, answer_to, at_later, at_message, at_ready, at_said, at_place, at_places}
 use Rattle.zre_values.specs.declared.settings.Settings.{Settings as Config}
 use Rattle.zre_mailbox.specs.declared.arrival.Arrival.TheVariants as arrival
 use Rattle.zre_msg.specs.declared.message.Body.{Body}
@@ -166,9 +166,9 @@ module _ (K L : List Mark) (r : AreAlike K L) where
     same_taken_over None = refl
     same_taken_over (Some d) = ap (λ o. end_of_run g o cause.Taken ++ Closes d close.Taken ∷ []) (same_runs d)
 
-    same_shaken : (c : ℕ) (p : PeerId) (i : Option PeerId) → at_shaken g c p i K ≡ at_shaken g c p i L
-    same_shaken c p (Some j) = refl
-    same_shaken c p None = ap (λ o. taken_over g o K ++ Shakes c p ∷ []) (same_other p c) ∙ ap (λ hs. hs ++ Shakes c p ∷ []) (same_taken_over (other_with p c L))
+    same_ready : (c : ℕ) (p : PeerId) (i : Option PeerId) → at_ready g c p i K ≡ at_ready g c p i L
+    same_ready c p (Some j) = refl
+    same_ready c p None = ap (λ o. taken_over g o K ++ Identifies c p ∷ []) (same_other p c) ∙ ap (λ hs. hs ++ Identifies c p ∷ []) (same_taken_over (other_with p c L))
 
     module _ (c : ℕ) (m : Message) where
       same_unknown : (p : PeerId) (o : Option Endpoint) → start_unknown g c p m o K ≡ start_unknown g c p m o L
@@ -202,7 +202,7 @@ module _ (K L : List Mark) (r : AreAlike K L) where
 
     same_said : (c : ℕ) (x : Said) → at_said g c x K ≡ at_said g c x L
     same_said c (Arrived arrival.Greeted) = refl
-    same_said c (Arrived (arrival.Shaken p)) = ap (λ i. at_shaken g c p i K) (same_identity c) ∙ same_shaken c p (identity c L)
+    same_said c (Arrived (arrival.Shaken p)) = ap (λ i. at_ready g c p i K) (same_identity c) ∙ same_ready c p (identity c L)
     same_said c (Arrived (arrival.Ping t)) = refl
     same_said c (Arrived (arrival.Message m)) = ap (λ o. at_message g c o m K) (same_runs c) ∙ same_message c m (runs c L)
     same_said c (Fault f) = ap (λ o. end_of_run g o cause.Fault ++ Closes c (close.Zmtp f) ∷ []) (same_runs c)

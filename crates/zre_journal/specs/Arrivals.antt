@@ -19,7 +19,7 @@ use Rattle.zre_peer.specs.declared.causes.Cause.TheVariants as cause
 use Rattle.zre_peer.specs.declared.causes.CloseWhy.TheVariants as close
 use Rattle.zre_peer.specs.declared.causes.IgnoreWhy.TheVariants as ignore
 use Rattle.zre_values.specs.declared.settings.Settings.{Settings as Config}
-use Rattle.zre_journal.specs.Chronicle.{Mark, Opens, TurnsAway, Greets, Shakes, AnswersPing, Starts, Counts, Ignores}
+use Rattle.zre_journal.specs.Chronicle.{Mark, Opens, TurnsAway, Greets, Identifies, AnswersPing, Starts, Counts, Ignores}
 use Rattle.zre_journal.specs.Chronicle.{Closes, IsShut, Ends, in_turn}
 use Rattle.zre_journal.specs.Connections.{open_ones, is_open, is_new, identity, runs, is_live, other_with}
 use Rattle.zre_journal.specs.Peers.{Life, lives, births, life_of, counted}
@@ -80,13 +80,13 @@ module _ (g : Config) where
 
   -- READY introduces the peer p (RFC 23, the NULL mechanism), and takes over from another connection of p; a second
   -- READY would have no effect
-  abbrev pub at_shaken : ℕ → PeerId → Option PeerId → List Mark → List Mark
-  at_shaken c p None K = taken_over (other_with p c K) K ++ Shakes c p ∷ []
-  at_shaken c p (Some q) K = []
+  abbrev pub at_ready : ℕ → PeerId → Option PeerId → List Mark → List Mark
+  at_ready c p None K = taken_over (other_with p c K) K ++ Identifies c p ∷ []
+  at_ready c p (Some q) K = []
 
   abbrev pub at_arrival : ℕ → Arrival → List Mark → List Mark
   at_arrival c arrival.Greeted K = Greets c ∷ []
-  at_arrival c (arrival.Shaken p) K = at_shaken c p (identity c K) K
+  at_arrival c (arrival.Shaken p) K = at_ready c p (identity c K) K
   at_arrival c (arrival.Ping t) K = AnswersPing c t ∷ []
   at_arrival c (arrival.Message m) K = at_message c (runs c K) m K
 

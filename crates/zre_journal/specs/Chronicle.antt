@@ -23,7 +23,7 @@ pub data Mark : Type 0 where
   -- its greeting is whole; its READY is, with this identity (RFC 23, greeting and the NULL mechanism); a PING with this
   -- context is answered (RFC 37, heartbeats)
   Greets : (c : ℕ) → Mark
-  Shakes : (c : ℕ) → (p : PeerId) → Mark
+  Identifies : (c : ℕ) → (p : PeerId) → Mark
   AnswersPing : (c : ℕ) → (context : List ℕ) → Mark
   -- its first message, HELLO, starts a run of the peer on link l; a later one is counted (RFC 36, numbers of messages)
   Starts : (c l : ℕ) → (m : Message) → Mark

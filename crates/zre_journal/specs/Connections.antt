@@ -5,7 +5,7 @@ use Rattle.std.specs.Option.{option_and_then, option_map_or}
 use Rattle.std.specs.List.{list_any, filter, find}
 use Rattle.zre_values.specs.declared.peer_id.PeerId.{PeerId}
 use Rattle.std.specs.Str.{bytes_eq}
-use Rattle.zre_journal.specs.Chronicle.{Mark, Opens, TurnsAway, Shakes, Starts, Ignores, Closes, IsShut, ClosesAtStop}
+use Rattle.zre_journal.specs.Chronicle.{Mark, Opens, TurnsAway, Identifies, Starts, Ignores, Closes, IsShut, ClosesAtStop}
 use Rattle.zre_journal.specs.Chronicle.{Ends, latest, ever}
 use Rattle.zre_journal.specs.Heard.{clock}
 
@@ -33,7 +33,7 @@ is_new c (TurnsAway d ∷ H) = nat_lt d c && is_new c H
 is_new c (_ ∷ H) = is_new c H
 
 abbrev pub identity_at : ℕ → Mark → Option PeerId
-identity_at c (Shakes d p) = if nat_eq c d then Some p else None
+identity_at c (Identifies d p) = if nat_eq c d then Some p else None
 identity_at c _ = None
 
 -- the identity that came on c

@@ -9,7 +9,7 @@ use Rattle.zre_outside.specs.declared.entry.Input.{Input}
 use Rattle.zre_outside.specs.declared.entry.Input.TheVariants as input
 use Rattle.zre_peer.specs.declared.event.Event.{Event}
 use Rattle.zre_values.specs.declared.settings.Settings.{Settings as Config}
-use Rattle.zre_journal.specs.Chronicle.{Mark, Comes, Opens, TurnsAway, Greets, Shakes, AnswersPing, Starts, Counts}
+use Rattle.zre_journal.specs.Chronicle.{Mark, Comes, Opens, TurnsAway, Greets, Identifies, AnswersPing, Starts, Counts}
 use Rattle.zre_journal.specs.Chronicle.{Ignores, Closes, IsShut, Born, Ends, Puts, after, ever}
 use Rattle.zre_journal.specs.Connections.{identity, is_same, is_open, started, refuses}
 use Rattle.zre_journal.specs.Events.{chronicle, events_at}
@@ -78,7 +78,7 @@ abbrev pub IsDoneOn : ℕ → Option PeerId → Mark → List Mark → Type 0
 IsDoneOn c who (Opens d) K = d ≡ c
 IsDoneOn c who (TurnsAway d) K = d ≡ c
 IsDoneOn c who (Greets d) K = d ≡ c
-IsDoneOn c who (Shakes d p) K = (d ≡ c) × (who ≡ Some p)
+IsDoneOn c who (Identifies d p) K = (d ≡ c) × (who ≡ Some p)
 IsDoneOn c who (AnswersPing d context) K = d ≡ c
 IsDoneOn c who (Starts d l m) K = (d ≡ c) × IsLinkOf who l K
 IsDoneOn c who (Counts d l m) K = (d ≡ c) × IsLinkOf who l K

@@ -184,7 +184,7 @@ pub fn a_node_tells_the_truth()
     ensures { (g : Config) (J : List Entry) → TellsTruth g (chronicle g J) }
 {}
 
-/// What was counted on a connection is a front of the messages that its octets say. Where it runs a peer, that is all
+/// What was counted on a connection is a prefix of the messages that its octets say. Where it runs a peer, that is all
 /// of them, and the octets have no fault.
 pub fn a_run_is_its_octets()
     ensures { (g : Config) (J : List Entry) → RunsOnOctets g (chronicle g J) }
@@ -211,7 +211,7 @@ pub fn a_ledger_is_kept()
         → IsWithinWindow b (chronicle g J) → KeepsLedger b (events g J) (chronicle g J) }
 {}
 
-/// And the next message that comes, fewer than 65,536 places from the one due, is counted where it is that one and the
+/// A message of a ledger that comes fewer than 65,536 places from the one due is counted where it is that one and the
 /// view after it is within the limits; a missing, repeated or reordered one ends the peer at once, before anything
 /// later of it.
 pub fn a_gap_shows_at_once()
@@ -227,7 +227,8 @@ pub fn what_comes_near_is_counted_near()
         → IsWithinWindow b (chronicle g J) }
 {}
 
-/// Every journal keeps its ledgers: the laws before, of all ledgers, in one.
+/// Every journal keeps its ledgers: where each message comes fewer than 65,536 places from the one due, none that was
+/// counted is missing, repeated or out of order.
 pub fn ledgers_are_kept()
     ensures { (g : Config) (J : List Entry) → KeepsLedgers g J (events g J) }
 {}
@@ -292,7 +293,7 @@ pub fn tables_are_told()
 {}
 
 /// What is answered on a connection is the greeting as it opens, and then READY to its greeting and PONG to each PING
-/// that its octets say, in their order and each once: all of them while it is live, and from then on a front of them.
+/// that its octets say, in their order and each once: all of them while it is live, and from then on a prefix of them.
 pub fn answers_are_in_turn()
     ensures { (g : Config) (J : List Entry) → AnswersInTurn g J }
 {}

@@ -1,4 +1,4 @@
-use Rattle.zre_journal.proofs.Ledgers.{is_judged}
+use Rattle.zre_journal.proofs.MessagesOfLedgers.{is_judged}
 use Rattle.zre_journal.proofs.laws.a_gap_shows_at_once.Goals as goal
 
 pub returns : goal.returns

@@ -1,4 +1,4 @@
-use Rattle.zre_journal.proofs.Ledgers.{keeps_ledger}
+use Rattle.zre_journal.proofs.MessagesOfLedgers.{keeps_ledger}
 use Rattle.zre_journal.proofs.laws.a_ledger_is_kept.Goals as goal
 
 pub returns : goal.returns

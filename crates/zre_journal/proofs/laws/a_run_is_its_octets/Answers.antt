@@ -1,4 +1,4 @@
-use Rattle.zre_journal.proofs.Octets.{runs_on_octets}
+use Rattle.zre_journal.proofs.RunsOnOctets.{runs_on_octets}
 use Rattle.zre_journal.proofs.laws.a_run_is_its_octets.Goals as goal
 
 pub returns : goal.returns

@@ -1,4 +1,4 @@
-use Rattle.zre_journal.proofs.Stops.{told_to_stop}
+use Rattle.zre_journal.proofs.StopsAreTold.{told_to_stop}
 use Rattle.zre_journal.proofs.laws.a_stop_is_told.Goals as goal
 
 pub returns : goal.returns

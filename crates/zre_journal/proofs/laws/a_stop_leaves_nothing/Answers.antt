@@ -1,4 +1,4 @@
-use Rattle.zre_journal.proofs.Closing.{leaves_nothing}
+use Rattle.zre_journal.proofs.StopsLeaveNothing.{leaves_nothing}
 use Rattle.zre_journal.proofs.laws.a_stop_leaves_nothing.Goals as goal
 
 pub returns : goal.returns

@@ -1,4 +1,4 @@
-use Rattle.zre_journal.proofs.Cleaning.{cleans_up, waits}
+use Rattle.zre_journal.proofs.CleanAfterTicks.{cleans_up, waits}
 use Rattle.zre_journal.proofs.laws.a_tick_cleans_up.Goals as goal
 
 pub returns : goal.returns

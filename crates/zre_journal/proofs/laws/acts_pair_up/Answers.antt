@@ -1,4 +1,4 @@
-use Rattle.zre_journal.proofs.Closing.{are_paired}
+use Rattle.zre_journal.proofs.StopsLeaveNothing.{are_paired}
 use Rattle.zre_journal.proofs.laws.acts_pair_up.Goals as goal
 
 pub returns : goal.returns

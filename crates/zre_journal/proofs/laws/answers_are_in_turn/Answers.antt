@@ -1,4 +1,4 @@
-use Rattle.zre_journal.proofs.Answering.{answers_in_turn}
+use Rattle.zre_journal.proofs.AnswersInTurn.{answers_in_turn}
 use Rattle.zre_journal.proofs.laws.answers_are_in_turn.Goals as goal
 
 pub returns : goal.returns

@@ -1,4 +1,4 @@
-use Rattle.zre_journal.proofs.Cutting.{same_cut}
+use Rattle.zre_journal.proofs.CutPieces.{same_cut}
 use Rattle.zre_journal.proofs.laws.any_cut.Goals as goal
 
 pub returns : goal.returns

@@ -1,4 +1,4 @@
-use Rattle.zre_journal.proofs.Obeying.{obeys}
+use Rattle.zre_journal.proofs.CommandsObeyed.{obeys}
 use Rattle.zre_journal.proofs.laws.commands_are_obeyed.Goals as goal
 
 pub returns : goal.returns

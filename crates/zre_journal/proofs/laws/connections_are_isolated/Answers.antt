@@ -1,4 +1,4 @@
-use Rattle.zre_journal.proofs.OwnDoing.{isolates}
+use Rattle.zre_journal.proofs.ConnectionsIsolated.{isolates}
 use Rattle.zre_journal.proofs.laws.connections_are_isolated.Goals as goal
 
 pub returns : goal.returns

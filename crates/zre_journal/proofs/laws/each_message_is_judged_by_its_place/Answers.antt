@@ -1,7 +1,7 @@
 use Rattle.std.proofs.Common.{refl}
 use Rattle.zre_mailbox.specs.declared.arrival.Arrival.TheVariants as arrival
 use Rattle.zre_mailbox.specs.Talk.{Arrived}
-use Rattle.zre_journal.proofs.Places.{is_placed}
+use Rattle.zre_journal.proofs.PlacesInLedgers.{is_placed}
 use Rattle.zre_journal.proofs.laws.each_message_is_judged_by_its_place.Goals as goal
 
 pub returns : goal.returns

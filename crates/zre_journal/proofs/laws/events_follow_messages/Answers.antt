@@ -1,4 +1,4 @@
-use Rattle.zre_journal.proofs.Passing.{follows_messages}
+use Rattle.zre_journal.proofs.EventsFollowMessages.{follows_messages}
 use Rattle.zre_journal.proofs.laws.events_follow_messages.Goals as goal
 
 pub returns : goal.returns

@@ -1,4 +1,4 @@
-use Rattle.zre_journal.proofs.Holding.{introduced}
+use Rattle.zre_journal.proofs.HeldIsBounded.{introduced}
 use Rattle.zre_journal.proofs.laws.hello_fits.Goals as goal
 
 pub returns : goal.returns

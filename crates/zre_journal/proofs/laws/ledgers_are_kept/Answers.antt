@@ -1,4 +1,4 @@
-use Rattle.zre_journal.proofs.Windows.{keeps_ledgers}
+use Rattle.zre_journal.proofs.NearMessages.{keeps_ledgers}
 use Rattle.zre_journal.proofs.laws.ledgers_are_kept.Goals as goal
 
 pub returns : goal.returns

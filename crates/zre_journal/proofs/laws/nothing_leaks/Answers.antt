@@ -1,4 +1,4 @@
-use Rattle.zre_journal.proofs.Fronts.{leaks_nothing}
+use Rattle.zre_journal.proofs.NothingLeaks.{leaks_nothing}
 use Rattle.zre_journal.proofs.laws.nothing_leaks.Goals as goal
 
 pub returns : goal.returns

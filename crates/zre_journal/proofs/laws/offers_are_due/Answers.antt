@@ -1,4 +1,4 @@
-use Rattle.zre_journal.proofs.Due.{entry_due}
+use Rattle.zre_journal.proofs.OffersAreDue.{entry_due}
 use Rattle.zre_journal.proofs.laws.offers_are_due.Goals as goal
 
 pub returns : goal.returns

@@ -1,5 +1,5 @@
 use Rattle.zre_journal.specs.Events.{chronicle}
-use Rattle.zre_journal.proofs.Standing.{open_is_opened}
+use Rattle.zre_journal.proofs.KnownAreBorn.{open_is_opened}
 use Rattle.zre_journal.proofs.laws.open_is_opened_and_not_closed.Goals as goal
 
 pub returns : goal.returns

@@ -1,4 +1,4 @@
-use Rattle.zre_journal.proofs.Causes.{ends_by_table}
+use Rattle.zre_journal.proofs.PeersEndByCauses.{ends_by_table}
 use Rattle.zre_journal.proofs.laws.peers_end_by_the_table_of_causes.Goals as goal
 
 pub returns : goal.returns

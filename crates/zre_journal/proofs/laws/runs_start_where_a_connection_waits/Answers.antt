@@ -1,5 +1,5 @@
 use Rattle.zre_journal.specs.Chronicle.{Starts, Ignores}
-use Rattle.zre_journal.proofs.Standing.{came_right}
+use Rattle.zre_journal.proofs.KnownAreBorn.{came_right}
 use Rattle.zre_journal.proofs.laws.runs_start_where_a_connection_waits.Goals as goal
 
 pub returns : goal.returns

@@ -1,4 +1,4 @@
-use Rattle.zre_journal.proofs.FirstTicks.{tells_silence}
+use Rattle.zre_journal.proofs.FirstTickAfterSilence.{tells_silence}
 use Rattle.zre_journal.proofs.laws.silence_is_told.Goals as goal
 
 pub returns : goal.returns

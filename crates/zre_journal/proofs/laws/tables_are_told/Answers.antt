@@ -1,4 +1,4 @@
-use Rattle.zre_journal.proofs.Tables.{tells_by_tables}
+use Rattle.zre_journal.proofs.ToldByTables.{tells_by_tables}
 use Rattle.zre_journal.proofs.laws.tables_are_told.Goals as goal
 
 pub returns : goal.returns

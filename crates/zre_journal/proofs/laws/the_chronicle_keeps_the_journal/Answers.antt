@@ -1,4 +1,4 @@
-use Rattle.zre_journal.proofs.Keeping.{keeps}
+use Rattle.zre_journal.proofs.ChroniclesKeepJournals.{keeps}
 use Rattle.zre_journal.proofs.laws.the_chronicle_keeps_the_journal.Goals as goal
 
 pub returns : goal.returns

@@ -1,4 +1,4 @@
-use Rattle.zre_journal.proofs.Closing.{no_peer}
+use Rattle.zre_journal.proofs.StopsLeaveNothing.{no_peer}
 use Rattle.zre_journal.proofs.laws.the_node_is_no_peer.Goals as goal
 
 pub returns : goal.returns

@@ -1,4 +1,4 @@
-use Rattle.zre_journal.proofs.Lawful.{shows_messages}
+use Rattle.zre_journal.proofs.LawsOfChronicles.{shows_messages}
 use Rattle.zre_journal.proofs.laws.views_follow_messages.Goals as goal
 
 pub returns : goal.returns

@@ -1,4 +1,4 @@
-use Rattle.zre_journal.proofs.Windows.{is_within_window}
+use Rattle.zre_journal.proofs.NearMessages.{is_within_window}
 use Rattle.zre_journal.proofs.laws.what_comes_near_is_counted_near.Goals as goal
 
 pub returns : goal.returns

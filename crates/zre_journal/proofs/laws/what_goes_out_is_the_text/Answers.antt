@@ -1,4 +1,4 @@
-use Rattle.zre_journal.proofs.Outgoing.{goes_out_in_order}
+use Rattle.zre_journal.proofs.SentOctetsInOrder.{goes_out_in_order}
 use Rattle.zre_journal.proofs.laws.what_goes_out_is_the_text.Goals as goal
 
 pub returns : goal.returns

@@ -1,5 +1,5 @@
 use Rattle.zre_journal.specs.Events.{chronicle}
-use Rattle.zre_journal.proofs.Holding.{within, held-most}
+use Rattle.zre_journal.proofs.HeldIsBounded.{within, held-most}
 use Rattle.zre_journal.proofs.laws.what_is_held_is_bounded.Goals as goal
 
 pub returns-clause-parts : goal.returns-clause-parts
