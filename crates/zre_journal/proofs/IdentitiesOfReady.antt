@@ -214,9 +214,9 @@ module _ (g : Config) (J : List Entry) where
     plain : (hs : List Mark) → AreUnidentified hs → Q hs
     plain hs u = same_one c (after hs K) K (unidentified_same c hs K u) o
 
-    shaken : (p : PeerId) → one ≡ Arrived (arrival.Shaken p) → (i : Option PeerId) → Q (at_ready g c p i K)
-    shaken p is (Some q) r i = o c r i
-    shaken p is None r i =
+    on_ready : (p : PeerId) → one ≡ Arrived (arrival.Shaken p) → (i : Option PeerId) → Q (at_ready g c p i K)
+    on_ready p is (Some q) r i = o c r i
+    on_ready p is None r i =
         let hs = taken_over g (other_with p c K) K in
         let s = unidentified_same c hs K (all_taken Unidentified (λ l why. tt) (λ c why. tt) (λ l b. tt) g (other_with p c K) K) in
         let now : after (hs ++ Identifies c p ∷ []) K ≡ Identifies c p ∷ after hs K = after-append hs (Identifies c p ∷ []) K in
@@ -227,7 +227,7 @@ module _ (g : Config) (J : List Entry) where
 
     said : (s : Said) → one ≡ s → Q (at_said g c s K)
     said (Arrived arrival.Greeted) is = plain (at_said g c (Arrived arrival.Greeted) K) (tt, tt)
-    said (Arrived (arrival.Shaken p)) is = shaken p is (identity c K)
+    said (Arrived (arrival.Shaken p)) is = on_ready p is (identity c K)
     said (Arrived (arrival.Ping t)) is = plain (at_said g c (Arrived (arrival.Ping t)) K) (tt, tt)
     said (Arrived (arrival.Message m)) is = plain (at_message g c (runs c K) m K) (unidentified_message g K c (runs c K) m)
     said (Fault f) is = plain (at_said g c (Fault f) K) (All-join Unidentified (end_of_run g (runs c K) cause.Fault) _ (all_end Unidentified (λ l why. tt) (λ c why. tt) (λ l b. tt) g (runs c K) cause.Fault) (tt, tt))

@@ -184,9 +184,9 @@ chosen t c (d ∷ cs) a = by (chosen t c cs a.1) (eqb c d) refl (t d) refl
     by r false e false z = r
 
 module _ (g : Config) (v : Life) where
-  pub unshaken : (us : List Life) (I : List Mark) → find (λ (u : Life). eqb v.link u.link) us ≡ None → evasive_in v.link (probe g us I) ≡ []
-  unshaken [] I e = refl
-  unshaken (u ∷ us) I e = by (unshaken us (after x (IsEvasive u.link ∷ I))) (eqb v.link u.link) refl e
+  pub evasive_never : (us : List Life) (I : List Mark) → find (λ (u : Life). eqb v.link u.link) us ≡ None → evasive_in v.link (probe g us I) ≡ []
+  evasive_never [] I e = refl
+  evasive_never (u ∷ us) I e = by (evasive_never us (after x (IsEvasive u.link ∷ I))) (eqb v.link u.link) refl e
     where
       x : List Mark
       x = push g u.link body.Ping I
@@ -196,9 +196,9 @@ module _ (g : Config) (v : Life) where
       by r true z e = cc
       by r false z e = bare_then (evasive_of v.link) (reads_evasive v.link) x (probe g us (after x (IsEvasive u.link ∷ I))) (bare_push g u.link body.Ping I) ∙ r e
 
-  pub shaken : (us : List Life) (I : List Mark) → find (λ (u : Life). eqb v.link u.link) us ≡ Some v → Apart (λ (u : Life). u.link) us → evasive_in v.link (probe g us I) ≡ v.link ∷ []
-  shaken [] I e a = cc
-  shaken (u ∷ us) I e a = by (λ z. shaken us (after x (IsEvasive u.link ∷ I)) z a.1) (eqb v.link u.link) refl e
+  pub evasive_once : (us : List Life) (I : List Mark) → find (λ (u : Life). eqb v.link u.link) us ≡ Some v → Apart (λ (u : Life). u.link) us → evasive_in v.link (probe g us I) ≡ v.link ∷ []
+  evasive_once [] I e a = cc
+  evasive_once (u ∷ us) I e a = by (λ z. evasive_once us (after x (IsEvasive u.link ∷ I)) z a.1) (eqb v.link u.link) refl e
     where
       x : List Mark
       x = push g u.link body.Ping I
@@ -209,5 +209,5 @@ module _ (g : Config) (v : Life) where
           let is : u ≡ v = cc in
           ap (λ n. n ∷ evasive_in v.link (x ++ probe g us (after x (IsEvasive u.link ∷ I)))) (ap (λ (w : Life). w.link) is)
           ∙ ap (λ xs. v.link ∷ xs) (bare_then (evasive_of v.link) (reads_evasive v.link) x (probe g us (after x (IsEvasive u.link ∷ I))) (bare_push g u.link body.Ping I)
-          ∙ unshaken us (after x (IsEvasive u.link ∷ I)) (none_there v.link us (subst (λ (w : Life). AllByRecursion (λ (y : Life). eqb w.link y.link ≡ false) us) is a.0)))
+          ∙ evasive_never us (after x (IsEvasive u.link ∷ I)) (none_there v.link us (subst (λ (w : Life). AllByRecursion (λ (y : Life). eqb w.link y.link ≡ false) us) is a.0)))
       by r false z e = bare_then (evasive_of v.link) (reads_evasive v.link) x (probe g us (after x (IsEvasive u.link ∷ I))) (bare_push g u.link body.Ping I) ∙ r e

@@ -375,9 +375,9 @@ module _ (g : Config) (K : List Mark) (q : IsProper K) (names : AreNamed K) (v :
       by true z = subst (λ n. Is (at_later g c n m K) (cause_of_message g l m K)) (eqb-true l k z) (later c m)
       by false z = far_later c k m z
 
-  shaken : (c : ℕ) (p : PeerId) (o : Option PeerId) → identity c K ≡ o → Is (at_ready g c p o K) (cause_said g c (Arrived (arrival.Shaken p)) K v)
-  shaken c p (Some i) e = rw e refl
-  shaken c p None e = rw e (then_calm l (taken_over g (other_with p c K) K) _ (tt, tt) ∙ by (other_with p c K))
+  on_ready : (c : ℕ) (p : PeerId) (o : Option PeerId) → identity c K ≡ o → Is (at_ready g c p o K) (cause_said g c (Arrived (arrival.Shaken p)) K v)
+  on_ready c p (Some i) e = rw e refl
+  on_ready c p None e = rw e (then_calm l (taken_over g (other_with p c K) K) _ (tt, tt) ∙ by (other_with p c K))
     where
       by : (o : Option ℕ) → Is (taken_over g o K) (where_so (is_run_by (option_and_then (λ d. runs d K) o) v) cause.Taken)
       by None = refl
@@ -385,7 +385,7 @@ module _ (g : Config) (K : List Mark) (q : IsProper K) (names : AreNamed K) (v :
 
   said : (c : ℕ) (one : Said) → Is (at_said g c one K) (cause_said g c one K v)
   said c (Arrived arrival.Greeted) = refl
-  said c (Arrived (arrival.Shaken p)) = shaken c p (identity c K) refl
+  said c (Arrived (arrival.Shaken p)) = on_ready c p (identity c K) refl
   said c (Arrived (arrival.Ping t)) = refl
   said c (Arrived (arrival.Message m)) = message c m (runs c K)
   said c (Fault f) = then_calm l (end_of_run g (runs c K) cause.Fault) _ (tt, tt) ∙ run_ends g v (runs c K) cause.Fault

@@ -42,7 +42,7 @@ use Rattle.zre_journal.proofs.WithinCounts.{found_kept}
 use Rattle.zre_journal.proofs.NumberedLists.{Apart-kept}
 use Rattle.zre_journal.proofs.BroughtInTurn.{dropped}
 use Rattle.zre_journal.proofs.WhenMarksCome.{choice}
-use Rattle.zre_journal.proofs.MarksInNoTable.{AreBare, Reads, reads_closed, reads_ignored, reads_born, reads_evasive, bare_none, bare_then, either, bare_push, bare_run, bare_reply, bare_linked, bare_unlinked, bare_took, bare_stop, bare_command, bare_shut, probes_none, closes_none, tick_read, chosen, unshaken, shaken}
+use Rattle.zre_journal.proofs.MarksInNoTable.{AreBare, Reads, reads_closed, reads_ignored, reads_born, reads_evasive, bare_none, bare_then, either, bare_push, bare_run, bare_reply, bare_linked, bare_unlinked, bare_took, bare_stop, bare_command, bare_shut, probes_none, closes_none, tick_read, chosen, evasive_never, evasive_once}
 use Rattle.zre_journal.proofs.ProperChronicles.{comes_proper}
 
 -- ---- entries
@@ -143,8 +143,8 @@ module _ (g : Config) (H K : List Mark) (q : IsProper K) where
       ∙ append-nil (evasive_in v.link (probe g (filter (is_evasive g K) (lives K)) K)) ∙ by (is_evasive g K v) refl
     where
       by : (b : Bool) → is_evasive g K v ≡ b → evasive_in v.link (probe g (filter (is_evasive g K) (lives K)) K) ≡ cons_option (where_so b v.link) []
-      by true e = shaken g v (filter (is_evasive g K) (lives K)) K (found_kept (λ (u : Life). eqb v.link u.link) (is_evasive g K) (lives K) v known e) (Apart-kept (λ (u : Life). u.link) (is_evasive g K) (lives K) q.living.apart)
-      by false e = unshaken g v (filter (is_evasive g K) (lives K)) K (dropped (is_evasive g K) (lives K) v known e q.living.apart)
+      by true e = evasive_once g v (filter (is_evasive g K) (lives K)) K (found_kept (λ (u : Life). eqb v.link u.link) (is_evasive g K) (lives K) v known e) (Apart-kept (λ (u : Life). u.link) (is_evasive g K) (lives K) q.living.apart)
+      by false e = evasive_never g v (filter (is_evasive g K) (lives K)) K (dropped (is_evasive g K) (lives K) v known e q.living.apart)
   evasive_entry v known i n = bare_none (evasive_of v.link) (reads_evasive v.link) (at_input g i H K) (bare_input i tt)
 
 -- ---- places

@@ -19,8 +19,8 @@ use Rattle.zre_peer.specs.declared.causes.Cause.TheVariants as cause
 use Rattle.zre_peer.specs.declared.causes.CloseWhy.TheVariants as close
 use Rattle.zre_peer.specs.declared.causes.IgnoreWhy.TheVariants as ignore
 use Rattle.zre_values.specs.declared.settings.Settings.{Settings as Config}
-use Rattle.zre_journal.specs.Chronicle.{Mark, Opens, TurnsAway, Greets, Identifies, AnswersPing, Starts, Counts, Ignores}
-use Rattle.zre_journal.specs.Chronicle.{Closes, IsShut, Ends, in_turn}
+use Rattle.zre_journal.specs.Chronicle.{Mark, Opens, TurnsAway, Greets, Identifies, AnswersPing, Starts, Counts}
+use Rattle.zre_journal.specs.Chronicle.{Ignores, Closes, IsShut, Ends, in_turn}
 use Rattle.zre_journal.specs.Connections.{open_ones, is_open, is_new, identity, runs, is_live, other_with}
 use Rattle.zre_journal.specs.Peers.{Life, lives, births, life_of, counted}
 use Rattle.zre_journal.specs.Pushes.{push, birth}

@@ -5,7 +5,8 @@ use Rattle.std.specs.Option.{option_and_then, option_map_or}
 use Rattle.std.specs.List.{list_any, filter, find}
 use Rattle.zre_values.specs.declared.peer_id.PeerId.{PeerId}
 use Rattle.std.specs.Str.{bytes_eq}
-use Rattle.zre_journal.specs.Chronicle.{Mark, Opens, TurnsAway, Identifies, Starts, Ignores, Closes, IsShut, ClosesAtStop}
+use Rattle.zre_journal.specs.Chronicle.{Mark, Opens, TurnsAway, Identifies, Starts, Ignores, Closes, IsShut}
+use Rattle.zre_journal.specs.Chronicle.{ClosesAtStop}
 use Rattle.zre_journal.specs.Chronicle.{Ends, latest, ever}
 use Rattle.zre_journal.specs.Heard.{clock}
 

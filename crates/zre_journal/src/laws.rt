@@ -227,8 +227,8 @@ pub fn what_comes_near_is_counted_near()
         → IsWithinWindow b (chronicle g J) }
 {}
 
-/// Every journal keeps its ledgers: where each message comes fewer than 65,536 places from the one due, none that was
-/// counted is missing, repeated or out of order.
+/// Where the messages of a journal are drawn from ledgers, and each comes fewer than 65,536 places from the one due,
+/// those that were counted are the beginning of their ledger, and each that comes to a run is judged by its place.
 pub fn ledgers_are_kept()
     ensures { (g : Config) (J : List Entry) → KeepsLedgers g J (events g J) }
 {}
