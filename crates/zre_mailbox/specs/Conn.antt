@@ -82,14 +82,14 @@ abbrev pub is_spent : ConnHearing → Bool
 is_spent h = is_spent_in h.phase
 
 -- how many octets are held, by its phase
-abbrev pub kept_in : Phase → ℕ
-kept_in (Live r) = kept r
-kept_in Spent = 0
-kept_in Ignored = 0
+abbrev pub held_in : Phase → ℕ
+held_in (Live r) = kept r
+held_in Spent = 0
+held_in Ignored = 0
 
 -- how many octets are held
-abbrev pub kept_of : ConnHearing → ℕ
-kept_of h = kept_in h.phase
+abbrev pub held_of : ConnHearing → ℕ
+held_of h = held_in h.phase
 
 -- ---- what a piece does
 

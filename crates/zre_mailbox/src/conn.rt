@@ -9,7 +9,7 @@ ghost use Rattle.zre_zmtp.specs.Looks.{Looks, IsOpenTo};
 ghost use Rattle.zre_zmtp.specs.Stream.{Whole};
 ghost use Rattle.zre_zmtp.specs.declared.want.Want.TheVariants.{Dealer};
 ghost use Rattle.zre_mailbox.specs.Talk.{arrivals_in, fault_in};
-ghost use Rattle.zre_mailbox.specs.Conn.{conn_after, ignoring, is_ignored, is_spent, kept_of, Hears};
+ghost use Rattle.zre_mailbox.specs.Conn.{conn_after, ignoring, is_ignored, is_spent, held_of, Hears};
 ghost use Rattle.zre_mailbox.specs.Conn.{HearsOn, HearsLent, RefusesToHear};
 ghost use Rattle.zre_mailbox.specs.declared.phase.Phase.TheVariants.{Spent as SpentPhase};
 
@@ -105,7 +105,7 @@ impl Conn {
         requires unspent { is_spent self.old ≡ false }
         // How many octets are looked at.
         ensures once { steps.new ≤ steps.old + length piece.now }
-        ensures looks { Looks steps.old steps.new (kept_of self.old) (kept_of self.new) (length piece.now) result }
+        ensures looks { Looks steps.old steps.new (held_of self.old) (held_of self.new) (length piece.now) result }
         // What the piece brings.
         ensures ok { HearsOn result self.old self.new piece.now out.old out.new }
         // What a refusal tells, and what it leaves.
@@ -151,7 +151,7 @@ impl Conn {
         ensures heard { is_ignored self.new ≡ false }
         // How many octets are looked at.
         ensures once { steps.new ≤ steps.old + length piece.now }
-        ensures looks { Looks steps.old steps.new (kept_of self.old) (kept_of self.new) (length piece.now) result }
+        ensures looks { Looks steps.old steps.new (held_of self.old) (held_of self.new) (length piece.now) result }
     {
         let Phase::Live(reader) = &mut self.phase else {
             unreachable!();
@@ -185,7 +185,7 @@ impl Conn {
         ensures other { result ≡ Ok Came.Other → (self.new ≡ self.old) × (steps.new ≡ steps.old) }
         // How many octets are looked at.
         ensures once { steps.new ≤ steps.old + length piece.now }
-        ensures looks { Looks steps.old steps.new (kept_of self.old) (kept_of self.new) (length piece.now) result }
+        ensures looks { Looks steps.old steps.new (held_of self.old) (held_of self.new) (length piece.now) result }
     {
         let Phase::Live(reader) = &mut self.phase else {
             unreachable!();
@@ -203,7 +203,7 @@ impl Conn {
     /// Ignores all that comes from now on, and drops the octets that are held. The identity stays.
     pub fn ignore(&mut self)
         ensures ignored { self.new ≡ ignoring self.old }
-        ensures empty { kept_of self.new ≡ 0 }
+        ensures empty { held_of self.new ≡ 0 }
     {
         self.phase = Phase::Ignored;
     }
@@ -212,7 +212,7 @@ impl Conn {
     /// frame.
     pub fn kept(&self) -> u64
         ensures held { (own : PeerIdValue) (o : List ℕ) → self.now ≡ conn_after own o →
-            (result ≡ kept_of self.now) × (result ≤ MESSAGE_OCTETS + 9 + COMMAND_OCTETS) }
+            (result ≡ held_of self.now) × (result ≤ MESSAGE_OCTETS + 9 + COMMAND_OCTETS) }
         ensures ignored { is_ignored self.now ≡ true → result ≡ 0 }
     {
         match &self.phase {
