@@ -7,7 +7,7 @@ use Rattle.zre_link.specs.declared.fault.ReplyFault.TheVariants as answer
 use Rattle.zre_zmtp.specs.declared.item.Item.{Item}
 use Rattle.zre_zmtp.specs.Looks.{IsPaid, IsPaidOnRefusal}
 use Rattle.zre_zmtp.specs.Ping.{contexts_in}
-use Rattle.zre_link.specs.Heard.{Heard, heard_after, new_pings, kept_of}
+use Rattle.zre_link.specs.Heard.{Heard, heard_after, new_pings, held_of}
 use Rattle.zre_link.specs.Link.{Sending, link_after, unsent_of, slow_at, answering, slow_in, link_answering, RefusesReply}
 use Rattle.zre_link.specs.Text.{Member}
 
@@ -57,19 +57,19 @@ if_err P Q (Ok x) f p = p
 if_err P Q (Err e) f p = f e p
 
 -- the looks that a piece takes, where the same is kept by other names
-pub still_paid : (looks looks' n : ℕ) (was heard was' heard' : Heard) → was ≡ was' → heard' ≡ heard → IsPaid looks looks' (kept_of was) (kept_of heard) n → IsPaid looks looks' (kept_of was') (kept_of heard') n
+pub still_paid : (looks looks' n : ℕ) (was heard was' heard' : Heard) → was ≡ was' → heard' ≡ heard → IsPaid looks looks' (held_of was) (held_of heard) n → IsPaid looks looks' (held_of was') (held_of heard') n
 still_paid looks looks' n was heard was' heard' a b paid =
-    subst (λ h. IsPaid looks looks' (kept_of was') (kept_of h) n) (sym b) (subst (λ h. IsPaid looks looks' (kept_of h) (kept_of heard) n) a paid)
+    subst (λ h. IsPaid looks looks' (held_of was') (held_of h) n) (sym b) (subst (λ h. IsPaid looks looks' (held_of h) (held_of heard) n) a paid)
 
-pub paid_by : (looks looks' n : ℕ) (was heard was' : Heard) → was ≡ was' → IsPaid looks looks' (kept_of was) (kept_of heard) n → IsPaidOnRefusal looks looks' (kept_of was') n
-paid_by looks looks' n was heard was' a paid = let same = ap kept_of a in omega (arith, paid, same)
+pub paid_by : (looks looks' n : ℕ) (was heard was' : Heard) → was ≡ was' → IsPaid looks looks' (held_of was) (held_of heard) n → IsPaidOnRefusal looks looks' (held_of was') n
+paid_by looks looks' n was heard was' a paid = let same = ap held_of a in omega (arith, paid, same)
 
-pub refusal_paid : (looks looks' n : ℕ) (was was' : Heard) → was ≡ was' → IsPaidOnRefusal looks looks' (kept_of was) n → IsPaidOnRefusal looks looks' (kept_of was') n
-refusal_paid looks looks' n was was' a paid = subst (λ h. IsPaidOnRefusal looks looks' (kept_of h) n) a paid
+pub refusal_paid : (looks looks' n : ℕ) (was was' : Heard) → was ≡ was' → IsPaidOnRefusal looks looks' (held_of was) n → IsPaidOnRefusal looks looks' (held_of was') n
+refusal_paid looks looks' n was was' a paid = subst (λ h. IsPaidOnRefusal looks looks' (held_of h) n) a paid
 
 -- and where a refusal keeps nothing
-pub emptied_paid : (looks looks' n : ℕ) (was heard was' heard' : Heard) → was ≡ was' → heard' ≡ heard → kept_of heard ≡ 0 → IsPaidOnRefusal looks looks' (kept_of was) n → IsPaid looks looks' (kept_of was') (kept_of heard') n
+pub emptied_paid : (looks looks' n : ℕ) (was heard was' heard' : Heard) → was ≡ was' → heard' ≡ heard → held_of heard ≡ 0 → IsPaidOnRefusal looks looks' (held_of was) n → IsPaid looks looks' (held_of was') (held_of heard') n
 emptied_paid looks looks' n was heard was' heard' a b none paid =
-    let same = ap kept_of a in
-    let now = ap kept_of b in
+    let same = ap held_of a in
+    let now = ap held_of b in
     omega (arith, paid, same, now, none)

@@ -56,13 +56,13 @@ abbrev pub heard_after : List ℕ → Heard
 heard_after o = record { awaits = awaited o; hearing = hearing_by (reply_fault o) (reading o) }
 
 -- how many octets are held, by what is done with octets
-abbrev pub kept_in : Hearing → ℕ
-kept_in (Reads r) = kept r
-kept_in (Refused f) = 0
+abbrev pub held_in : Hearing → ℕ
+held_in (Reads r) = kept r
+held_in (Refused f) = 0
 
 -- how many octets are held
-abbrev pub kept_of : Heard → ℕ
-kept_of h = kept_in h.hearing
+abbrev pub held_of : Heard → ℕ
+held_of h = held_in h.hearing
 
 -- ---- how far the other end has come
 

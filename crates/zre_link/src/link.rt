@@ -12,7 +12,7 @@ ghost use Rattle.zre_msg.specs.declared.message.Body.TheVariants.{Ping, Shout};
 ghost use Rattle.zre_msg.specs.Spelling.{FitsBody, FitsString};
 ghost use Rattle.zre_link.specs.Front.{IsFront};
 ghost use Rattle.zre_link.specs.Text.{Member, bodies_in, text_of};
-ghost use Rattle.zre_link.specs.Heard.{heard_after, kept_of};
+ghost use Rattle.zre_link.specs.Heard.{heard_after, held_of};
 ghost use Rattle.zre_link.specs.Link.{link_after, gate_at, has_front, front_of, taken_by, unsent_of, slow_at};
 ghost use Rattle.zre_link.specs.Link.{answering, Puts, RefusesToPut, Answers, RefusesToAnswer, RefusesReply};
 ghost use Rattle.zre_link.specs.Link.{IsOnlyAnswered};
@@ -225,11 +225,11 @@ impl Link {
         ensures only_answered { IsOnlyAnswered self.old self.new }
         // How many octets are looked at.
         ensures once { steps.new ≤ steps.old + length piece.now }
-        ensures looks { Looks steps.old steps.new (kept_of self.old.replies) (kept_of self.new.replies)
+        ensures looks { Looks steps.old steps.new (held_of self.old.replies) (held_of self.new.replies)
             (length piece.now) result }
         ensures paid { IfErr result (λ e. e ≢ ReplyFault.OutOfMemory
-            → IsPaid steps.old steps.new (kept_of self.old.replies)
-            (kept_of self.new.replies) (length piece.now)) }
+            → IsPaid steps.old steps.new (held_of self.old.replies)
+            (held_of self.new.replies) (length piece.now)) }
     {
         let mut items = Items::new(self.alloc);
         match self.replies.feed(piece, &mut items, steps) {
@@ -336,7 +336,7 @@ impl Link {
     pub fn kept(&self) -> u64
         ensures { (own : PeerIdValue) (line : List Member) (linked : Bool) (o : List ℕ) (n : ℕ) →
             self.now ≡ link_after own line linked o n →
-            (result ≡ kept_of (heard_after o)) × (result ≤ MESSAGE_OCTETS + 9 + COMMAND_OCTETS) }
+            (result ≡ held_of (heard_after o)) × (result ≤ MESSAGE_OCTETS + 9 + COMMAND_OCTETS) }
     {
         self.replies.kept()
     }

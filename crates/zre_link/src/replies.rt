@@ -7,7 +7,7 @@ ghost use Rattle.zre_zmtp.specs.Looks.{Looks};
 ghost use Rattle.zre_zmtp.specs.Ping.{contexts_in};
 ghost use Rattle.zre_zmtp.specs.Stream.{Whole};
 ghost use Rattle.zre_zmtp.specs.declared.want.Want.TheVariants.{Router};
-ghost use Rattle.zre_link.specs.Heard.{reply_fault, new_pings, awaited, heard_after, kept_of, expected_of};
+ghost use Rattle.zre_link.specs.Heard.{reply_fault, new_pings, awaited, heard_after, held_of, expected_of};
 
 use crate::awaits::Awaits;
 use crate::hearing::Hearing;
@@ -96,9 +96,9 @@ impl Replies {
             × (contexts_in out.new ≡ new_pings o piece.now))) }
         // How many octets are looked at.
         ensures once { steps.new ≤ steps.old + length piece.now }
-        ensures looks { Looks steps.old steps.new (kept_of self.old) (kept_of self.new) (length piece.now) result }
+        ensures looks { Looks steps.old steps.new (held_of self.old) (held_of self.new) (length piece.now) result }
         // After a refusal no octets are held.
-        ensures emptied { OnErr result (kept_of self.new ≡ 0) }
+        ensures emptied { OnErr result (held_of self.new ≡ 0) }
     {
         let reader = match &mut self.hearing {
             Hearing::Reads(reader) => reader,
@@ -124,7 +124,7 @@ impl Replies {
     /// frame.
     pub fn kept(&self) -> u64
         ensures { (o : List ℕ) → self.now ≡ heard_after o →
-            (result ≡ kept_of (heard_after o)) × (result ≤ MESSAGE_OCTETS + 9 + COMMAND_OCTETS) }
+            (result ≡ held_of (heard_after o)) × (result ≤ MESSAGE_OCTETS + 9 + COMMAND_OCTETS) }
     {
         match &self.hearing {
             Hearing::Reads(reader) => reader.kept(),
