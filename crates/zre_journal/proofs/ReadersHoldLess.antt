@@ -10,8 +10,8 @@ use Rattle.zre_outside.specs.declared.entry.Input.{Input}
 use Rattle.zre_outside.specs.declared.entry.Input.TheVariants as input
 use Rattle.zre_zmtp.specs.Stream.{cut}
 use Rattle.zre_zmtp.specs.Stream as stream
-use Rattle.zre_mailbox.specs.Conn.{conn_after, kept_of}
-use Rattle.zre_link.specs.Heard.{heard_after, kept_of as kept_of_replies}
+use Rattle.zre_mailbox.specs.Conn.{conn_after, held_of}
+use Rattle.zre_link.specs.Heard.{heard_after, held_of as held_of_replies}
 use Rattle.zre_values.specs.declared.settings.Settings.{Settings as Config}
 use Rattle.zre_journal.specs.Chronicle.{Mark, Comes, Opens, Starts, Ignores, Closes, IsShut, ClosesAtStop, Born, Ends, after, ever}
 use Rattle.zre_peer.specs.declared.causes.Cause.{Cause}
@@ -32,11 +32,11 @@ use Rattle.zre_journal.proofs.SaidOnConnections.{outcome}
 
 -- ---- nothing has come
 
-no_octets : (own : PeerId) → kept_of (conn_after own []) ≡ 0
+no_octets : (own : PeerId) → held_of (conn_after own []) ≡ 0
 unfolding cut stream.greeting_fault
 no_octets own = refl
 
-no_replies : kept_of_replies (heard_after []) ≡ 0
+no_replies : held_of_replies (heard_after []) ≡ 0
 unfolding cut stream.greeting_fault
 no_replies = refl
 
@@ -69,7 +69,7 @@ module _ (g : Config) (H : List Mark) (q : IsProper H) where
   idle_more false b u v f k e = cc
 
   ends_lower : (l : ℕ) (why : Cause) (c : ℕ) → conn_kept g (Ends l why ∷ H) c ≤ conn_kept g H c
-  ends_lower l why c = still_ignored (is_ignored c H) (is_ignored c (Ends l why ∷ H)) (kept_of (conn_after g.id (bytes c H)))
+  ends_lower l why c = still_ignored (is_ignored c H) (is_ignored c (Ends l why ∷ H)) (held_of (conn_after g.id (bytes c H)))
       (idle_more (is_none (runs c H)) (is_none (runs c (Ends l why ∷ H))) (was_used c H) (was_used c H) (gone (started c H)) (λ e. e))
     where
       past : (k : ℕ) (a b : Bool) → is_none (cond b None (Some k)) ≡ true → is_none (cond (cond a true b) None (Some k)) ≡ true
@@ -81,7 +81,7 @@ module _ (g : Config) (H : List Mark) (q : IsProper H) where
       gone (Some k) e = past k (eqb k l) (has_ended k H) e
 
   ignores_lower : (d : ℕ) (why : IgnoreWhy) (c : ℕ) → conn_kept g (Ignores d why ∷ H) c ≤ conn_kept g H c
-  ignores_lower d why c = still_ignored (is_ignored c H) (is_ignored c (Ignores d why ∷ H)) (kept_of (conn_after g.id (bytes c H)))
+  ignores_lower d why c = still_ignored (is_ignored c H) (is_ignored c (Ignores d why ∷ H)) (held_of (conn_after g.id (bytes c H)))
       (idle_more (is_none (runs c H)) (is_none (runs c H)) (was_used c H) (was_used c (Ignores d why ∷ H)) (λ e. e) (used (eqb c d) (ever (refuses c) H) (is_some (started c H))))
     where
       used : (a b s : Bool) → (b || s) ≡ true → (cond a true b || s) ≡ true
@@ -98,7 +98,7 @@ module _ (g : Config) (H : List Mark) (q : IsProper H) where
           rw (x, y) refl
 
       by : (b : Bool) → eqb c d ≡ b → conn_kept g (Starts d l m ∷ H) c ≤ conn_kept g H c
-      by true e = let o = unused (eqb-true c d e) in still_ignored (is_ignored c H) (is_ignored c (Starts d l m ∷ H)) (kept_of (conn_after g.id (bytes c H))) (λ i. absurd (true≢false (sym i ∙ o)))
+      by true e = let o = unused (eqb-true c d e) in still_ignored (is_ignored c H) (is_ignored c (Starts d l m ∷ H)) (held_of (conn_after g.id (bytes c H))) (λ i. absurd (true≢false (sym i ∙ o)))
       by false e = rw e (omega arith)
 
   same_conns : (f : ℕ → ℕ) → ((c : ℕ) → f c ≤ conn_kept g H c) → sum_by f (open_ones H) + sum_by (replies_kept g H) (lives H) ≤ kept g H
@@ -108,8 +108,8 @@ module _ (g : Config) (H : List Mark) (q : IsProper H) where
   mark_lowers w t (Comes e) b = absurd b.1
   mark_lowers w t (Opens c) b =
       let none : bytes c H ≡ [] = (q.opening.unheard c b.0.is_fresh).no_octets in
-      let empty : kept_of (conn_after g.id (bytes c H)) ≡ 0 = ap (λ o. kept_of (conn_after g.id o)) none ∙ no_octets g.id in
-      let nothing : conn_kept g H c ≤ kept_of (conn_after g.id (bytes c H)) = at_most (is_ignored c H) (kept_of (conn_after g.id (bytes c H))) in
+      let empty : held_of (conn_after g.id (bytes c H)) ≡ 0 = ap (λ o. held_of (conn_after g.id o)) none ∙ no_octets g.id in
+      let nothing : conn_kept g H c ≤ held_of (conn_after g.id (bytes c H)) = at_most (is_ignored c H) (held_of (conn_after g.id (bytes c H))) in
       omega (arith, sum_by_push (conn_kept g H) (open_ones H) c, nothing, empty)
   mark_lowers w t (Starts c l m) b = same_conns (conn_kept g (Starts c l m ∷ H)) (starts_lower c l m b.0.idle b.1.1)
   mark_lowers w t (Ignores c why) b = same_conns (conn_kept g (Ignores c why ∷ H)) (ignores_lower c why)
@@ -118,7 +118,7 @@ module _ (g : Config) (H : List Mark) (q : IsProper H) where
   mark_lowers w t (ClosesAtStop c) b = omega (arith, filter_lowers (conn_kept g H) (λ d. not (eqb c d)) (open_ones H))
   mark_lowers w t (Born l p to) b =
       let none : replies l H ≡ [] = (q.living.fresh l (omega (arith, b.0.next_link))).no_reply in
-      let nothing : kept_of_replies (heard_after (replies l H)) ≡ 0 = ap (λ o. kept_of_replies (heard_after o)) none ∙ no_replies in
+      let nothing : held_of_replies (heard_after (replies l H)) ≡ 0 = ap (λ o. held_of_replies (heard_after o)) none ∙ no_replies in
       omega (arith, sum_by_push (replies_kept g H) (lives H) (record { link = l; id = p; endpoint = to }), nothing)
   mark_lowers w t (Ends l why) b =
       omega (arith, each_lowers (conn_kept g (Ends l why ∷ H)) (conn_kept g H) (ends_lower l why) (open_ones H), filter_lowers (replies_kept g H) (λ (v : Life). not (eqb l v.link)) (lives H))
@@ -173,14 +173,14 @@ module _ {A : Type 0} (key : A → ℕ) (f h : A → ℕ) (n : ℕ) (same : (x :
 module _ (g : Config) (H : List Mark) (q : IsProper H) where
   -- an entry that is no piece leaves what connections keep, and one that is no reply what links keep
   conns_same : (e : Entry) → ((c : ℕ) → piece_of c e.input ≡ []) → (c : ℕ) → conn_kept g (Comes e ∷ H) c ≡ conn_kept g H c
-  conns_same e none c = ap (λ o. cond (is_ignored c H) 0 (kept_of (conn_after g.id o))) (unheard (was_opened c H))
+  conns_same e none c = ap (λ o. cond (is_ignored c H) 0 (held_of (conn_after g.id o))) (unheard (was_opened c H))
     where
       unheard : (b : Bool) → bytes c H ++ cond b (piece_of c e.input) [] ≡ bytes c H
       unheard true = rw (none c) (append-nil (bytes c H))
       unheard false = append-nil (bytes c H)
 
   links_same : (e : Entry) → ((l : ℕ) → reply_of l e.input ≡ []) → (v : Life) → replies_kept g (Comes e ∷ H) v ≡ replies_kept g H v
-  links_same e none v = ap (λ o. kept_of_replies (heard_after o)) (unheard (is_linked v.link H))
+  links_same e none v = ap (λ o. held_of_replies (heard_after o)) (unheard (is_linked v.link H))
     where
       unheard : (b : Bool) → replies v.link H ++ cond b (reply_of v.link e.input) [] ≡ replies v.link H
       unheard true = rw (none v.link) (append-nil (replies v.link H))
@@ -214,7 +214,7 @@ module _ (g : Config) (H : List Mark) (q : IsProper H) where
 
   module _ (e : Entry) (n : ℕ) (o : List ℕ) (is : e.input ≡ input.Piece n o) where
     other_conn : (c : ℕ) → eqb n c ≡ false → conn_kept g (Comes e ∷ H) c ≡ conn_kept g H c
-    other_conn c far = ap (λ p. cond (is_ignored c H) 0 (kept_of (conn_after g.id p))) (unheard (was_opened c H))
+    other_conn c far = ap (λ p. cond (is_ignored c H) 0 (held_of (conn_after g.id p))) (unheard (was_opened c H))
       where
         nothing : piece_of c e.input ≡ []
         nothing = ap (piece_of c) is ∙ ap (λ b. cond b o []) (eqb-comm c n ∙ far)
@@ -252,7 +252,7 @@ module _ (g : Config) (H : List Mark) (q : IsProper H) where
 
   module _ (e : Entry) (n : ℕ) (o : List ℕ) (is : e.input ≡ input.Reply n o) where
     other_link : (v : Life) → eqb n v.link ≡ false → replies_kept g (Comes e ∷ H) v ≡ replies_kept g H v
-    other_link v far = ap (λ p. kept_of_replies (heard_after p)) (unheard (is_linked v.link H))
+    other_link v far = ap (λ p. held_of_replies (heard_after p)) (unheard (is_linked v.link H))
       where
         nothing : reply_of v.link e.input ≡ []
         nothing = ap (reply_of v.link) is ∙ ap (λ b. cond b o []) (eqb-comm v.link n ∙ far)

@@ -10,8 +10,8 @@ use Rattle.zre_peer.specs.declared.view.View.{View}
 use Rattle.zre_values.specs.declared.settings.Settings.{Settings as Config}
 use Rattle.zre_journal.specs.Chronicle.{Mark}
 use Rattle.zre_journal.specs.Heard.{bytes}
-use Rattle.zre_mailbox.specs.Conn.{conn_after, kept_of}
-use Rattle.zre_link.specs.Heard.{heard_after, kept_of as kept_of_replies}
+use Rattle.zre_mailbox.specs.Conn.{conn_after, held_of}
+use Rattle.zre_link.specs.Heard.{heard_after, held_of as held_of_replies}
 use Rattle.zre_journal.specs.Connections.{open_ones, is_ignored, is_live}
 use Rattle.zre_journal.specs.Peers.{Life, lives, is_entered, view}
 use Rattle.zre_journal.specs.Links.{groups, is_linked, replies, unsent}
@@ -54,11 +54,11 @@ module _ (g : Config) (H : List Mark) where
 module _ (g : Config) (H : List Mark) where
   -- of a connection: nothing, where it is ignored or has a fault
   abbrev pub conn_kept : ℕ → ℕ
-  conn_kept c = if is_ignored c H then 0 else kept_of (conn_after g.id (bytes c H))
+  conn_kept c = if is_ignored c H then 0 else held_of (conn_after g.id (bytes c H))
 
   -- of the replies on a link
   abbrev pub replies_kept : Life → ℕ
-  replies_kept v = kept_of_replies (heard_after (replies v.link H))
+  replies_kept v = held_of_replies (heard_after (replies v.link H))
 
   -- of all open connections and all links of known peers
   abbrev pub kept : ℕ
