@@ -6,21 +6,22 @@ use zre_zmtp::ZmtpFault;
 /// Why a peer ended.
 #[derive(Clone, Copy, Debug, PartialEq, Eq)]
 pub enum Cause {
-    /// Its beacon said that it leaves (RFC 36, a beacon with port 0).
+    /// A beacon of the peer said that it leaves (RFC 36, a beacon with port 0).
     Beacon,
-    /// Nothing came from it for the time that the node's settings allow.
+    /// Nothing came from the peer for the time `expired` of the node's settings.
     Expired,
-    /// The node's own connection to it broke.
+    /// The node's own connection to the peer broke.
     Link,
-    /// What it answered there is no stream of a ROUTER.
+    /// What the peer answered on the node's own connection is no stream of a ROUTER (RFC 23).
     Reply(ZmtpFault),
-    /// It takes too little of what is sent: so many octets are unsent, and a message of so many more was due.
+    /// The peer is slow to read: `unsent` octets wait, a message of `size` octets was to be sent, and together they are
+    /// more than may wait on one link.
     Slow { unsent: u64, size: u64 },
-    /// It closed its connection.
+    /// The peer closed its connection.
     Shut,
-    /// What came on its connection is no stream of a DEALER.
+    /// What came on the peer's connection is no stream of a DEALER (RFC 23).
     Fault,
-    /// A newer connection with its identity took over.
+    /// A newer connection with the identity of the peer took over.
     Taken,
     /// A second HELLO came.
     Hello,
@@ -35,24 +36,24 @@ pub enum Cause {
 /// Why the node closes a connection.
 #[derive(Clone, Copy, Debug, PartialEq, Eq)]
 pub enum CloseWhy {
-    /// What came on it is no stream of a DEALER.
+    /// What came on the connection is no stream of a DEALER (RFC 23).
     Zmtp(ZmtpFault),
-    /// As many are open as may be.
+    /// As many connections are open as may be.
     TooMany,
-    /// It greeted no one, or was ignored, for the time after which a peer expires.
+    /// The connection ran no peer for the time after which a peer expires.
     Timeout,
-    /// A newer connection with its identity took over.
+    /// A newer connection with the same identity took over.
     Taken,
 }
 
 /// Why a connection is ignored.
 #[derive(Clone, Copy, Debug, PartialEq, Eq)]
 pub enum IgnoreWhy {
-    /// Its first message isn't HELLO with number 1.
+    /// The first message isn't HELLO with number 1.
     NotHello,
-    /// The view of its HELLO passes a limit.
+    /// The view that HELLO sets passes a limit.
     Limit,
-    /// The endpoint in its HELLO can't be read, and no beacon told one.
+    /// The peer isn't known, and the endpoint in HELLO can't be read.
     NoEndpoint,
     /// As many peers are known as may be.
     Full,

@@ -11,37 +11,37 @@ pub enum Event {
         endpoint: Octets,
         headers: Pairs,
     },
-    /// It says that it is in a group.
+    /// A peer says that it is in a group.
     Join {
         id: PeerId,
         name: Octets,
         group: Octets,
     },
-    /// It says that it has left a group.
+    /// A peer says that it has left a group.
     Leave {
         id: PeerId,
         name: Octets,
         group: Octets,
     },
-    /// It sent content to this node alone.
+    /// A peer sent content to this node alone.
     Whisper {
         id: PeerId,
         name: Octets,
         content: Frames,
     },
-    /// It sent content to a group.
+    /// A peer sent content to a group.
     Shout {
         id: PeerId,
         name: Octets,
         group: Octets,
         content: Frames,
     },
-    /// Nothing has come from it for a while.
+    /// Nothing has come from a peer for the time `evasive` of the node's settings.
     Evasive {
         id: PeerId,
         name: Octets,
     },
-    /// It has gone, or broken off.
+    /// A peer has gone, or the node has ended it.
     Exit {
         id: PeerId,
         name: Octets,

@@ -53,7 +53,8 @@ impl Headers {
         self.named.len()
     }
 
-    /// Whether there are few enough with a header of this name. Where they are fewer than the limit, none is looked at.
+    /// Whether the headers stay within the limit with one of this name. Where they are fewer than the limit, none is
+    /// looked at.
     pub fn can_add(&self, name: &[u8]) -> bool
         requires { length self.now ≤ HEADERS }
         ensures { (value : List ℕ) → result ≡ nat_le (length (with_header self.now (name.now, value))) HEADERS }

@@ -19,7 +19,7 @@ use std::mem;
 use zre_msg::Body;
 use zre_values::{Frames, Octets, OutOfMemory, Pairs, PeerId};
 
-// The groups that a HELLO names, each once. With the first that passes a limit the rest isn't looked at.
+// The groups that a HELLO names, each once. With the first that passes a limit the others aren't looked at.
 fn distinct_of(alloc: Global, groups: &Frames) -> Result<Groups, RunFault>
     ensures ok { IfOk result (λ found. (found ≡ distinct groups.now) × (are_few (distinct groups.now) ≡ true)) }
     ensures refused { IfErr result (λ e. e ≢ RunFault.OutOfMemory → (e ≡ RunFault.Limit)
@@ -35,7 +35,8 @@ fn distinct_of(alloc: Global, groups: &Frames) -> Result<Groups, RunFault>
     Ok(found)
 }
 
-// Its headers, of equal names the first, with the same rule.
+// The headers that a HELLO has, of equal names the first. With the first that passes the limit the others aren't
+// looked at.
 fn first_named_of(alloc: Global, headers: &Pairs) -> Result<Headers, RunFault>
     ensures ok { IfOk result (λ found. (found ≡ first_named headers.now)
         × (nat_le (length (first_named headers.now)) HEADERS ≡ true)) }

@@ -111,7 +111,7 @@ fn push_refused(out: &mut Octets, why: &RefuseWhy) -> Result<(), OutOfMemory>
     out.push(b'\n')
 }
 
-/// Appends the line of an event. After an error a front of it may stand there.
+/// Appends the line of an event. After an error a prefix of it may have been appended.
 pub fn push_line(out: &mut Octets, event: &Event) -> Result<(), OutOfMemory>
     ensures { OnOk result (out.new ≡ out.old ++ line event.now) }
 {
@@ -155,7 +155,7 @@ pub fn push_line(out: &mut Octets, event: &Event) -> Result<(), OutOfMemory>
     }
 }
 
-/// Appends the lines of some events. After an error a front of them may stand there.
+/// Appends the lines of some events. After an error a prefix of them may have been appended.
 pub fn push_lines(out: &mut Octets, events: &[Event]) -> Result<(), OutOfMemory>
     ensures { OnOk result (out.new ≡ out.old ++ lines events.now) }
 {

@@ -258,7 +258,8 @@ impl Run {
         Ok(events)
     }
 
-    /// Takes the next message and appends its events to a list. After `OutOfMemory` some of them may stand there.
+    /// Takes the next message and appends its events to a list. After `OutOfMemory` some of them may have been
+    /// appended.
     pub fn take(&mut self, mut message: Message, events: &mut Events) -> Answer
         requires { is_spent self.old ≡ false }
         // It is the next one: its events, and the view of a HELLO.
@@ -280,7 +281,7 @@ impl Run {
     }
 
     /// Takes the next message and appends its events to a list; the fields of a HELLO are moved out of it. After
-    /// `OutOfMemory` some of the events may stand there.
+    /// `OutOfMemory` some of the events may have been appended.
     pub(crate) fn take_from(&mut self, message: &mut Message, events: &mut Events) -> Answer
         requires { is_spent self.old ≡ false }
         // It is the next one: its events, and the view of a HELLO.
@@ -337,7 +338,7 @@ impl Run {
     }
 
     /// Takes a message after HELLO that lies in its frames, and appends the lines of its events to a text; they begin
-    /// with `heads`. After `OutOfMemory` a front of them may stand there.
+    /// with `heads`. After `OutOfMemory` a prefix of them may be there.
     #[inline(always)]
     pub(crate) fn tell(&mut self, lent: &LentMessage<'_>, heads: &Heads, out: &mut Octets) -> Answer
         // The run has taken HELLO and refused nothing, and these begin its lines.
