@@ -59,7 +59,7 @@ fn spell(alloc: Global, content: &Frames) -> Result<Octets, OutOfMemory>
 
 // The octets as all links have them: copied where they are fewer than 512, else shared.
 fn copied_or_shared(alloc: Global, octets: Octets) -> Result<Spelled, OutOfMemory>
-    ensures octets { IfOk result (λ spelled. spelled_octets spelled ≡ octets) }
+    ensures spelling { IfOk result (λ spelled. spelled_octets spelled ≡ octets) }
     ensures bounded { length octets < 2 ^ 64 }
 {
     if octets.len() < SHARED {

@@ -6,12 +6,12 @@ use Rattle.zre_link.proofs.tail.Tail.of.Goals as goal
 
 pub invariant_of-result : goal.invariant_of-result
 invariant_of-result c =
-    let is = c.in_ok-spelled.ensures.octets ∙ c.in_ok-octets.ensures in
-    let few = subst (λ l. length l < 2 ^ 64) (sym c.in_ok-spelled.ensures.octets) c.copied_or_shared.ensures.bounded in
+    let is = c.in_ok-spelled.ensures.spelling ∙ c.in_ok-octets.ensures in
+    let few = subst (λ l. length l < 2 ^ 64) (sym c.in_ok-spelled.ensures.spelling) c.copied_or_shared.ensures.bounded in
     is ∙ sym (ap frames (bodies_back (spelled_octets c.in_ok-spelled.spelled) c.args.content.now is few))
 
 pub returns : goal.returns
 returns c =
-    let is = c.in_ok-spelled.ensures.octets ∙ c.in_ok-octets.ensures in
-    let few = subst (λ l. length l < 2 ^ 64) (sym c.in_ok-spelled.ensures.octets) c.copied_or_shared.ensures.bounded in
+    let is = c.in_ok-spelled.ensures.spelling ∙ c.in_ok-octets.ensures in
+    let few = subst (λ l. length l < 2 ^ 64) (sym c.in_ok-spelled.ensures.spelling) c.copied_or_shared.ensures.bounded in
     bodies_back (spelled_octets c.in_ok-spelled.spelled) c.args.content.now is few
