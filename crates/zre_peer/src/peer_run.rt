@@ -223,7 +223,7 @@ impl Run {
     #[inline(always)]
     fn settle(&mut self, number: u16, answer: Answer) -> Answer
         requires { is_spent self.old ≡ false }
-        ensures answer { result ≡ answer }
+        ensures returned { result ≡ answer }
         ensures ok { OnOk answer (self.new ≡ record self.old { count = number }) }
         ensures refused { IfErr answer (λ e. e ≢ RunFault.OutOfMemory → self.new ≡ record self.old { spent = true }) }
         ensures unchanged { answer ≡ Err RunFault.OutOfMemory → self.new ≡ self.old }
