@@ -14,8 +14,8 @@ use Rattle.zre_zmtp.specs.declared.item.Item.{Item}
 use Rattle.zre_zmtp.specs.declared.item.What.{What}
 use Rattle.zre_zmtp.specs.declared.item.What.TheVariants as says
 use Rattle.zre_zmtp.specs.Stream.{Before, Kind, Whole, Parts, before, expected, opened, cut, fault, part_len, what_of, start_of, item, items_of, items}
-use Rattle.zre_zmtp.proofs.Cuts.{cases_Option, cut-none, cut-some}
-use Rattle.zre_zmtp.proofs.OctetsKept.{kept_most, part_within}
+use Rattle.zre_zmtp.proofs.OctetsCutIntoParts.{cases_Option, cut-none, cut-some}
+use Rattle.zre_zmtp.proofs.OctetsHeld.{kept_most, part_within}
 use Rattle.zre_mailbox.specs.Conn.{reading}
 use Rattle.zre_journal.specs.Held.{unfinished}
 use Rattle.zre_journal.proofs.NumberedLists.{All-join}

@@ -14,7 +14,7 @@ use Rattle.zre_zmtp.specs.declared.fault.FeedFault.{FeedFault}
 use Rattle.zre_zmtp.specs.declared.fault.FeedFault.TheVariants.{Zmtp, OutOfMemory}
 use Rattle.zre_zmtp.specs.Stream.{Before, Whole, Parts, before, expected, split, cut, items, items_of, item, fault, greeting_fault}
 use Rattle.zre_zmtp.specs.Reading.{Reading, Reads as IsAfter, Adds, IsOver, Refuses, new_items}
-use Rattle.zre_zmtp.proofs.Feeding.{is_over}
+use Rattle.zre_zmtp.proofs.ReadersFollowStreams.{is_over}
 use Rattle.zre_link.specs.declared.hearing.Hearing.{Hearing}
 use Rattle.zre_link.specs.declared.hearing.Hearing.TheVariants.{Reads, Refused}
 use Rattle.zre_link.specs.Heard.{reply_fault, pings, new_pings, awaited, reading, hearing_by, Heard, heard_after, expected_after}

@@ -21,16 +21,16 @@ use Rattle.zre_zmtp.specs.declared.item.What.{What}
 use Rattle.zre_zmtp.specs.declared.item.What.TheVariants as says
 use Rattle.zre_zmtp.specs.declared.fault.ZmtpWhy.{ZmtpWhy}
 use Rattle.zre_zmtp.specs.declared.fault.ZmtpWhy.TheVariants as why
-use Rattle.zre_zmtp.proofs.KnownStays.{IsWhole, is_whole-from, body-more}
+use Rattle.zre_zmtp.proofs.KnownHeadersStay.{IsWhole, is_whole-from, body-more}
 use Rattle.zre_zmtp.proofs.FaultsStay.{is_part, IsPart, frame-len}
-use Rattle.zre_zmtp.proofs.Cuts.{cases_Option, cut-none, cut-some}
+use Rattle.zre_zmtp.proofs.OctetsCutIntoParts.{cases_Option, cut-none, cut-some}
 use Rattle.zre_zmtp.proofs.WholeFrames.{exact}
 use Rattle.zre_zmtp.proofs.MoreOfOnePart.{head_fine, why_after, once-true}
 use Rattle.zre_msg.specs.Reading.{read_frames}
 use Rattle.zre_msg.specs.declared.message.Message.{Message as MessageValue}
 use Rattle.zre_zmtp.specs.Ping.{context_of}
-use Rattle.zre_zmtp.proofs.Framed.{why_none}
-use Rattle.zre_zmtp.proofs.OctetsKept.{row-off}
+use Rattle.zre_zmtp.proofs.FrameFaults.{why_none}
+use Rattle.zre_zmtp.proofs.OctetsHeld.{row-off}
 use Rattle.zre_mailbox.specs.declared.arrival.Arrival.{Arrival}
 use Rattle.zre_mailbox.specs.declared.arrival.Arrival.TheVariants.{Greeted, Shaken, Ping, Message}
 use Rattle.zre_mailbox.specs.Talk.{peer_of, arrivals_in, arrivals, AreTraffic, Introduced, IsInOrder, is_ready as is_ready_item, has_ready}

@@ -29,15 +29,15 @@ use Rattle.zre_zmtp.specs.Run.{Found, after, run_all}
 use Rattle.zre_zmtp.specs.Shown.{Advances, header_fault, frame_item, frame_after}
 use Rattle.zre_zmtp.specs.Stream.{Before, Whole, Parts, before, expected, split, cut, items, items_of, item, fault, fault_of, frame_fault, frame_why, greeting_fault, part_len, once, flags_fault, size_fault, body_fault, command_fault, is_error, is_ready, awaits_ready, has_socket, has_identity, is_value, is_other, opened_by, said, start_of}
 use Rattle.zre_zmtp.specs.Written.{own_greeting, ready_body, ready_frame}
-use Rattle.zre_zmtp.proofs.Cuts.{cut-none, split-more}
+use Rattle.zre_zmtp.proofs.OctetsCutIntoParts.{cut-none, split-more}
 use Rattle.zre_zmtp.proofs.WholeFrames.{part-fault}
-use Rattle.zre_zmtp.proofs.Feeding.{Follows, follows, fault-follows, is_over}
-use Rattle.zre_zmtp.proofs.Framed.{is_framed, IsFramed, fault-frame}
+use Rattle.zre_zmtp.proofs.ReadersFollowStreams.{Follows, follows, fault-follows, is_over}
+use Rattle.zre_zmtp.proofs.FrameFaults.{is_framed, IsFramed, fault-frame}
 use Rattle.zre_zmtp.proofs.Handshakes.{IsReadyBody, handshake_is_read}
-use Rattle.zre_zmtp.proofs.Messages.{message_is_read}
-use Rattle.zre_zmtp.proofs.Turning.{turn_whole, no_octets}
+use Rattle.zre_zmtp.proofs.MessagesAwaited.{message_is_read}
+use Rattle.zre_zmtp.proofs.TurnsOfReaders.{turn_whole, no_octets}
 use Rattle.zre_msg.specs.declared.message.Message.{Message}
-use Rattle.zre_msg.proofs.Meaning.{read-means}
+use Rattle.zre_msg.proofs.MeansIsRead.{read-means}
 use Rattle.zre_msg.specs.Spelling.{spell, octets}
 use Rattle.zre_mailbox.specs.declared.arrival.Arrival.{Arrival}
 use Rattle.zre_mailbox.specs.declared.arrival.Arrival.TheVariants as arrival

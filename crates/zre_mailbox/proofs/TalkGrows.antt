@@ -3,14 +3,14 @@ use Rattle.std.proofs.Common.{◌≡◌, ℕ, List, [], ◌∷◌, ◌++◌, len
 use Rattle.std.specs.Prelude.{map}
 use Rattle.std.proofs.lemmas.List.{append-nil, drop_at}
 use Rattle.std.proofs.lemmas.List.Elements.{filter_map-append}
-use Rattle.zre_zmtp.proofs.Cuts.{cases_Option}
+use Rattle.zre_zmtp.proofs.OctetsCutIntoParts.{cases_Option}
 use Rattle.zre_values.specs.declared.peer_id.PeerId.{PeerId}
 use Rattle.zre_zmtp.specs.Stream.{Whole, items, cut, greeting_fault}
 use Rattle.zre_zmtp.specs.declared.want.Want.TheVariants.{Dealer}
 use Rattle.zre_zmtp.specs.declared.item.Item.{Item}
 use Rattle.zre_zmtp.specs.declared.fault.ZmtpFault.{ZmtpFault}
 use Rattle.zre_zmtp.specs.Reading.{IsOver, new_items}
-use Rattle.zre_zmtp.proofs.Feeding.{extends, is_over}
+use Rattle.zre_zmtp.proofs.ReadersFollowStreams.{extends, is_over}
 use Rattle.zre_mailbox.specs.declared.arrival.Arrival.{Arrival}
 use Rattle.zre_mailbox.specs.Talk.{Said, Arrived, arrival_of, arrivals_in, arrivals, fault_in, fault_said, talk, completed, new_arrivals, Goes}
 

@@ -1,6 +1,6 @@
 use Rattle.std.proofs.Common.{◌++◌, ap, ◌∙◌, List}
 use Rattle.std.proofs.lemmas.Result.{IfErr-weaker}
-use Rattle.zre_values.proofs.Answered.{on_ok}
+use Rattle.zre_values.proofs.AnswersThatAreOk.{on_ok}
 use Rattle.zre_zmtp.specs.declared.item.Item.{Item}
 use Rattle.zre_mailbox.specs.Talk.{arrivals_in}
 use Rattle.zre_mailbox.proofs.ConnAfterOctets.{heard_onto, refused_onto, refused_looks}

@@ -1,5 +1,5 @@
 use Rattle.zre_msg.specs.Lent.{message_of}
-use Rattle.zre_values.proofs.Answered.{on_ok}
+use Rattle.zre_values.proofs.AnswersThatAreOk.{on_ok}
 use Rattle.zre_peer.proofs.LinesAfterHello.{still_small}
 use Rattle.zre_peer.proofs.view.View.later.Goals as goal
 
