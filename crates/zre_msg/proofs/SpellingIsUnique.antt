@@ -7,7 +7,7 @@ use Rattle.std.proofs.lemmas.Nat.{from_be_bytes-to_be_bytes_8}
 use Rattle.zre_msg.specs.declared.message.Message.{Message}
 use Rattle.std.proofs.lemmas.List.Elements.{recursion_from_All}
 use Rattle.zre_values.specs.Framing.{frame, frames, FitsFrame}
-use Rattle.zre_values.proofs.Quotes.{heads}
+use Rattle.zre_values.proofs.QuotedTexts.{heads}
 use Rattle.zre_msg.specs.Spelling.{spell, octets, HasOctets, Means}
 use Rattle.zre_msg.proofs.MeansIsRead.{Means-one}
 

@@ -9,7 +9,7 @@ use Rattle.std.specs.Option.{option_map_or}
 use Rattle.std.specs.Ordering.{nat_cmp}
 use Rattle.std.proofs.lemmas.Bool.{eqb-true, ne_eqb}
 use Rattle.zre_timers.specs.Agreement.{Agree, by_moment}
-use Rattle.zre_values.proofs.Orders.{both_equal}
+use Rattle.zre_values.proofs.OrdersOfPairs.{both_equal}
 
 -- two pairs are the same where their keys and their moments are
 pub same_pair : (at key a k : ℕ) → is_at (by_moment (at, key)) (a, k) ≡ ((key == k) && (at == a))
