@@ -14,7 +14,7 @@ ghost use Rattle.zre_node.specs.Kinds.{is_piece, piece_entry};
 
 use crate::effects::{Effects, Step};
 use crate::incoming::hearing::Piece;
-use crate::steps::Room;
+use crate::steps::Buffers;
 use crate::tables::Tables;
 use std::alloc::Global;
 use std::marker::Brand;
@@ -30,14 +30,14 @@ use zre_zmtp::{Bodies, Items, Steps as Counter};
 pub struct Node {
     pub(crate) tables: Tables,
     effects: Effects,
-    room: Room,
+    buffers: Buffers,
     spent: bool,
 }
 
 // A derived drop would be inlined, field by field, wherever a node is let go; this one is called there.
 impl Drop for Node {
     fn drop(self) {
-        take_apart!(self, Node: tables, effects, room, spent);
+        take_apart!(self, Node: tables, effects, buffers, spent);
     }
 }
 
@@ -69,7 +69,7 @@ impl Node {
                 stopped: false,
             },
             effects: Effects::new(alloc),
-            room: Room {
+            buffers: Buffers {
                 bodies: Bodies::new(alloc),
                 items: Items::new(alloc),
             },
@@ -198,7 +198,7 @@ impl Node {
         self.begin()?;
         if !self.tables.stopped {
             self.tables
-                .take_piece(&mut self.effects, &mut self.room, piece, steps)?;
+                .take_piece(&mut self.effects, &mut self.buffers, piece, steps)?;
         }
         self.finish(step);
         Ok(())

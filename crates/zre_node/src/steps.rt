@@ -21,9 +21,9 @@ use zre_outside::{Command, Entry, Input};
 use zre_values::OutOfMemory;
 use zre_zmtp::{Bodies, Came, Items, Steps};
 
-/// Room for what becomes whole with a piece: bodies that are lent, and items.
+/// What becomes whole with a piece lies here: bodies that are lent, and items. The buffers serve again and again.
 #[derive(Drop)]
-pub struct Room {
+pub struct Buffers {
     pub bodies: Bodies,
     pub items: Items,
 }
@@ -101,12 +101,12 @@ impl Tables {
         }
     }
 
-    /// What a piece of a connection brings, where the node hasn't stopped. What becomes whole with it goes into the
-    /// room for it, which serves again and again.
+    /// What a piece of a connection brings, where the node hasn't stopped. What becomes whole with it lies in
+    /// the buffers.
     pub fn take_piece<L: Ledger>(
         &mut self,
         out: &mut Effects,
-        room: &mut Room,
+        buffers: &mut Buffers,
         piece: &Piece<'_>,
         steps: &mut Steps<L>,
     ) -> Result<(), OutOfMemory>
@@ -121,13 +121,13 @@ impl Tables {
             from: piece.from,
             bytes: piece.bytes,
         };
-        match self.come_lent(lent, &mut room.bodies, steps)? {
+        match self.come_lent(lent, &mut buffers.bodies, steps)? {
             Came::Message(bodies) => {
                 self.said_lent(out, piece.from, &bodies)?;
                 self.offer(out)
             }
             Came::Part => self.offer(out),
-            Came::Other => self.take_fed(out, &mut room.items, piece, steps),
+            Came::Other => self.take_fed(out, &mut buffers.items, piece, steps),
         }
     }
 

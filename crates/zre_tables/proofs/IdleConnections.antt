@@ -11,7 +11,7 @@ use Rattle.zre_tables.specs.declared.connection.Connection.{Connection}
 use Rattle.zre_tables.specs.IdleConnections.{AllIdleFrom, IdleFrom}
 use Rattle.zre_tables.specs.Rows.{row_at, with_row, without_row, numbers_of}
 use Rattle.zre_tables.specs.Searches.{row_stale}
-use Rattle.zre_tables.proofs.Placed.{Lies, lies, rising_set}
+use Rattle.zre_tables.proofs.RowsInOrder.{Lies, lies, rising_set}
 
 -- no rows
 pub none_idle : (first : ℕ) (es : List (ℕ × Connection)) → es ≡ [] → AllIdleFrom first es

@@ -38,8 +38,8 @@ impl Connection {
         }
     }
 
-    // It is ignored from now on, and runs no peer.
-    pub(crate) fn put_aside(&mut self, now: u64)
+    // The connection is ignored from now on, and runs no peer.
+    pub(crate) fn ignore_from(&mut self, now: u64)
         ensures { self.new ≡ record self.old { since = now; run = None; conn = None } }
     {
         self.since = now;

@@ -114,7 +114,7 @@ impl Conns {
     {
         if let Some(at) = self.rows.place(conn) {
             let found = &mut self.rows.all[at].1;
-            found.put_aside(now);
+            found.ignore_from(now);
             self.first = earlier_idle(found, self.first);
         }
     }

@@ -90,7 +90,7 @@ impl Conns {
             Looks steps.old steps.new (kept_of (conn_after own o)) (kept_of (conn_after own (o ++ bytes.now)))
             (length bytes.now) result }
         // A connection without a reader.
-        ensures silent { reader_at conn self.old ≡ None →
+        ensures no_reader { reader_at conn self.old ≡ None →
             (self.new ≡ self.old) × (result ≡ Ok Came.Other) × (steps.new ≡ steps.old) }
     {
         let Some(at) = self.rows.place(conn) else {
@@ -125,7 +125,7 @@ impl Conns {
             Looks steps.old steps.new (kept_of (conn_after own o)) (kept_of (conn_after own (o ++ bytes.now)))
             (length bytes.now) result }
         // A connection without a reader.
-        ensures silent { reader_at conn self.old ≡ None →
+        ensures no_reader { reader_at conn self.old ≡ None →
             (self.new ≡ self.old) × (items.new ≡ []) × (result ≡ Ok None) × (steps.new ≡ steps.old) }
     {
         let Some(at) = self.rows.place(conn) else {

@@ -281,8 +281,9 @@ impl Peers {
         Ok(found)
     }
 
-    // The links of those whose moments lie so long back, which are brought up to date.
-    fn rested(&mut self, span: u64, now: u64) -> Result<Keys, OutOfMemory>
+    // The links of the peers whose moments lie a span or more back, rising: all that were silent for so long are among
+    // them. Their moments are brought up to date.
+    fn due_links(&mut self, span: u64, now: u64) -> Result<Keys, OutOfMemory>
         ensures rising { IfOk result IsStrictlyIncreasing }
         ensures all { IfOk result (λ links. (link : ℕ) (x : PeerValue) → row_at link self.old ≡ Some x
             → row_silent span now x ≡ true → list_any (λ l. l == link) links ≡ true) }
@@ -307,7 +308,7 @@ impl Peers {
         ensures found { IfOk result (λ links. links ≡ numbers_of (row_silent limit now) self.old) }
         ensures rows { self.new ≡ self.old }
     {
-        let links = self.rested(limit, now)?;
+        let links = self.due_links(limit, now)?;
         among(
             self.alloc,
             &self.rows,
@@ -316,14 +317,14 @@ impl Peers {
         )
     }
 
-    /// The links of those that are entered and evasive now, rising. It looks at the same ones, and where these are or
-    /// were many, at all.
+    /// The links of those that are entered and evasive now, rising. It looks at those that weren't heard since it last
+    /// came to them, or for so long, and where these are or were many, at all.
     pub fn evasive(&mut self, evasive: u64, expired: u64, now: u64) -> Result<Keys, OutOfMemory>
         ensures found { IfOk result (λ links. links ≡ numbers_of (row_evasive evasive expired now) self.old) }
         ensures rows { self.new ≡ self.old }
     {
         if !self.many {
-            let links = self.rested(evasive, now)?;
+            let links = self.due_links(evasive, now)?;
             let due = links.as_slice();
             if !are_many(due, &self.rows) {
                 return among(self.alloc, &self.rows, due, |peer| {

@@ -1,6 +1,6 @@
 use Rattle.std.proofs.Common.{refl}
 use Rattle.std.proofs.lemmas.Result.{IfOk-weaker}
-use Rattle.zre_tables.proofs.Lendings.{conn_takes}
+use Rattle.zre_tables.proofs.LentPieces.{conn_takes}
 use Rattle.zre_tables.proofs.feeding.lend.Goals as goal
 
 pub returns-clause-taken : goal.returns-clause-taken

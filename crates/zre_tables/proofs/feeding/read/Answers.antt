@@ -2,7 +2,7 @@ use Rattle.std.proofs.Common.{◌≡◌, List, [], ◌++◌, map, true, false, s
 use Rattle.zre_mailbox.specs.Conn.{ConnHearing, is_ignored, is_spent}
 use Rattle.zre_mailbox.specs.Talk.{Arrived, arrivals_in}
 use Rattle.zre_zmtp.specs.declared.item.Item.{Item}
-use Rattle.zre_tables.proofs.Hearings.{never_ignored, spent_stays, kept_refused, said_fine, said_faulty}
+use Rattle.zre_tables.proofs.FedConnections.{never_ignored, spent_stays, kept_refused, said_fine, said_faulty}
 use Rattle.zre_tables.proofs.feeding.read.Goals as goal
 
 pub returns-then-ignored-clause-heard : goal.returns-then-ignored-clause-heard

@@ -1,5 +1,5 @@
 use Rattle.std.proofs.Common.{ℕ, ◌+◌, List, length, arith}
-use Rattle.zre_tables.proofs.Adding.{sum_next}
+use Rattle.zre_tables.proofs.SumsOverRows.{sum_next}
 use Rattle.zre_tables.proofs.holding.headers_octets.Goals as goal
 
 pub loop-i-preserved : goal.loop-i-preserved

@@ -1,5 +1,5 @@
 use Rattle.std.proofs.Common.{arith}
-use Rattle.zre_tables.proofs.Offering.{rises_more}
+use Rattle.zre_tables.proofs.OffersByLinks.{rises_more}
 use Rattle.zre_tables.proofs.offers.is_rising.Goals as goal
 
 pub loop-i-init : goal.loop-i-init

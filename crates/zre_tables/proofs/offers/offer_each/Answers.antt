@@ -1,8 +1,8 @@
 use Rattle.std.proofs.Common.{true, false, sym, ◌∙◌}
 use Rattle.std.proofs.lemmas.List.{take_more}
 use Rattle.zre_tables.specs.Searches.{row_offered}
-use Rattle.zre_tables.proofs.Listing.{at_row, at_none}
-use Rattle.zre_tables.proofs.Offering.{one_offered, none_offered}
+use Rattle.zre_tables.proofs.ListedRows.{at_row, at_none}
+use Rattle.zre_tables.proofs.OffersByLinks.{one_offered, none_offered}
 use Rattle.zre_tables.proofs.offers.offer_each.Goals as goal
 use Rattle.zre_tables.proofs.offers.offer_each.Goals.{then-is_offered+in_ok-push, else-is_offered}
 

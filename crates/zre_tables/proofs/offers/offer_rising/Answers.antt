@@ -1,7 +1,7 @@
 use Rattle.std.proofs.Common.{◌++◌, List, ap, ◌∙◌}
 use Rattle.std.proofs.lemmas.Result.{on_ok_weaker}
 use Rattle.zre_outside.specs.declared.act.Act.{Act}
-use Rattle.zre_tables.proofs.Offering.{offers_by_links, rising_itself}
+use Rattle.zre_tables.proofs.OffersByLinks.{offers_by_links, rising_itself}
 use Rattle.zre_tables.proofs.offers.offer_rising.Goals as goal
 
 pub returns-else-are_many : goal.returns-else-are_many

@@ -5,8 +5,8 @@ use Rattle.std.specs.Map.{keys_of}
 use Rattle.zre_link.specs.Link.{has_front}
 use Rattle.zre_tables.specs.declared.peer.Peer.{Peer}
 use Rattle.zre_tables.specs.Searches.{begins_with, offered_among, since_link}
-use Rattle.zre_tables.proofs.Placed.{next_of}
-use Rattle.zre_tables.proofs.Walking.{offered_first, not_first, not_both, no_first, sorted_since, sorted_rest}
+use Rattle.zre_tables.proofs.RowsInOrder.{next_of}
+use Rattle.zre_tables.proofs.OffersByWalk.{offered_first, not_first, not_both, no_first, sorted_since, sorted_rest}
 use Rattle.zre_tables.proofs.offers.offer_rows.Goals as goal
 use Rattle.zre_tables.proofs.offers.offer_rows.Goals.{then-is_next+then-is_offered+in_ok-push, else-is_next, else-is_next-via-then-is_next+else-is_offered, else-is_next-via-else-is_next}
 

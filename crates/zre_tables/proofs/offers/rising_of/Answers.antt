@@ -3,7 +3,7 @@ use Rattle.std.proofs.lemmas.List.Filters.{dedup_is}
 use Rattle.std.specs.List.{list_any}
 use Rattle.std.specs.List.Sorted.{IsPermutation}
 use Rattle.zre_values.specs.Keys.{IsRisingListOf}
-use Rattle.zre_tables.proofs.Offering.{rising_from}
+use Rattle.zre_tables.proofs.OffersByLinks.{rising_from}
 use Rattle.zre_tables.proofs.offers.rising_of.Goals as goal
 
 pub returns : goal.returns

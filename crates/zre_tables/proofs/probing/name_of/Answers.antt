@@ -1,6 +1,6 @@
 use Rattle.std.proofs.Common.{◌≡◌, None, ◌∙◌}
 use Rattle.zre_peer.specs.Standing.{view_in}
-use Rattle.zre_tables.proofs.Naming.{no_name}
+use Rattle.zre_tables.proofs.NamesOfPeers.{no_name}
 use Rattle.zre_tables.proofs.probing.name_of.Goals as goal
 
 pub returns-in-None : goal.returns-in-None

@@ -3,7 +3,7 @@ use Rattle.zre_values.specs.declared.peer_id.PeerId.{PeerId}
 use Rattle.zre_msg.specs.Lent.{message_of}
 use Rattle.zre_peer.specs.Runs.{events_of}
 use Rattle.zre_peer.specs.Views.{view_of}
-use Rattle.zre_tables.proofs.Carrying.{if_err}
+use Rattle.zre_tables.proofs.RunsOfRows.{if_err}
 use Rattle.zre_values.proofs.Answered.{on_ok}
 use Rattle.zre_tables.proofs.runs.go_on.Goals as goal
 

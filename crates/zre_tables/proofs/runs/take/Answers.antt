@@ -1,5 +1,5 @@
 use Rattle.std.proofs.Common.{refl}
-use Rattle.zre_tables.proofs.Carrying.{run_in, of_err}
+use Rattle.zre_tables.proofs.RunsOfRows.{run_in, of_err}
 use Rattle.zre_values.proofs.Answered.{on_ok}
 use Rattle.zre_tables.proofs.runs.take.Goals as goal
 

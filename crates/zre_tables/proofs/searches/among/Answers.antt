@@ -1,7 +1,7 @@
 use Rattle.std.proofs.Common.{true, false, filter, refl, sym, ap, ◌∙◌, take_all}
 use Rattle.std.proofs.lemmas.List.{take_more}
 use Rattle.zre_tables.specs.Rows.{passes_at}
-use Rattle.zre_tables.proofs.Listing.{found_more, not_found, at_row, at_none}
+use Rattle.zre_tables.proofs.ListedRows.{found_more, not_found, at_row, at_none}
 use Rattle.zre_tables.proofs.searches.among.Goals as goal
 use Rattle.zre_tables.proofs.searches.among.Goals.{then-passes+in_ok-push, else-passes}
 

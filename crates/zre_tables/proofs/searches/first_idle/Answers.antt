@@ -1,5 +1,5 @@
 use Rattle.std.proofs.Common.{◌+◌, drop}
-use Rattle.zre_tables.proofs.Placed.{next_of}
+use Rattle.zre_tables.proofs.RowsInOrder.{next_of}
 use Rattle.zre_tables.proofs.IdleConnections.{idle_next}
 use Rattle.zre_tables.proofs.searches.first_idle.Goals as goal
 

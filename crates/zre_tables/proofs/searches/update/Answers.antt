@@ -1,6 +1,6 @@
 use Rattle.std.proofs.Common.{◌+◌, drop, subst}
-use Rattle.zre_tables.proofs.Placed.{next_of}
-use Rattle.zre_tables.proofs.Walking.{Left, first_left, idle_left}
+use Rattle.zre_tables.proofs.RowsInOrder.{next_of}
+use Rattle.zre_tables.proofs.OffersByWalk.{Left, first_left, idle_left}
 use Rattle.zre_tables.proofs.searches.update.Goals as goal
 use Rattle.zre_tables.proofs.searches.update.Goals.{in-Some+in_ok-update_one, in_default, then-next-links+then-links-next+in_ok-update_one-2, else-next-links}
 

@@ -1,6 +1,6 @@
 use Rattle.std.proofs.Common.{Bool, drop}
 use Rattle.zre_tables.specs.Agreement.{AreHeard}
-use Rattle.zre_tables.proofs.Walking.{Left}
+use Rattle.zre_tables.proofs.OffersByWalk.{Left}
 use Rattle.zre_tables.proofs.searches.update.Given as goal
 
 -- the moments agree with the rows still

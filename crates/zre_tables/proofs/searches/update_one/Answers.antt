@@ -2,7 +2,7 @@ use Rattle.std.proofs.Common.{◌≤◌, ◌-◌, ◌^◌, sym, ap, ◌∙◌, s
 use Rattle.std.specs.FinMap as map
 use Rattle.zre_timers.specs.Moments.{Moments}
 use Rattle.zre_tables.specs.Agreement.{AreHeard}
-use Rattle.zre_tables.proofs.Agreeing.{touch_heard}
+use Rattle.zre_tables.proofs.SumsAgreeWithRows.{touch_heard}
 use Rattle.zre_tables.proofs.searches.update_one.Goals as goal
 
 pub returns-in_ok-touch : goal.returns-in_ok-touch

@@ -1,6 +1,6 @@
 use Rattle.std.proofs.Common.{◌∙◌, ap, sym}
 use Rattle.zre_values.specs.Endpoint.{endpoint_in}
-use Rattle.zre_node.proofs.Naming.{hello_endpoint, other_endpoint}
+use Rattle.zre_node.proofs.NamedEndpoints.{hello_endpoint, other_endpoint}
 use Rattle.zre_node.proofs.incoming.first.mailbox_of.Goals as goal
 
 pub returns-in-Hello : goal.returns-in-Hello

@@ -2,7 +2,7 @@ use Rattle.std.proofs.Common.{◌<◌, is_some, refl, sym, ap, ◌∙◌, subst,
 use Rattle.zre_journal.specs.Events.{chronicle}
 use Rattle.zre_journal.specs.Links.{line, is_linked, replies, taken, gate}
 use Rattle.zre_link.specs.Link.{Sending, has_front}
-use Rattle.zre_node.proofs.Asking.{asked, unasked}
+use Rattle.zre_node.proofs.RowsAnswerDefinitions.{asked, unasked}
 use Rattle.zre_node.proofs.node.Node.front.Goals as goal
 
 pub returns-in-Some-clause-front : goal.returns-in-Some-clause-front

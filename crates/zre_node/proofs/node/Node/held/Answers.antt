@@ -5,7 +5,7 @@ use Rattle.zre_journal.specs.Events.{chronicle}
 use Rattle.zre_journal.specs.Peers.{lives}
 use Rattle.zre_journal.proofs.Holding.{talks-faultless, answers-faultless, within, held-most}
 use Rattle.zre_tables.specs.Holding.{capped}
-use Rattle.zre_node.proofs.Amounts.{can_be, all_read, all_send, all_held, told_whole}
+use Rattle.zre_node.proofs.HeldAmounts.{can_be, all_read, all_send, all_held, told_whole}
 use Rattle.zre_node.proofs.node.Node.held.Goals as goal
 
 pub returns-clause-exact : goal.returns-clause-exact

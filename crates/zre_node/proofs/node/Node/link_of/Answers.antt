@@ -1,8 +1,8 @@
 use Rattle.std.proofs.Common.{◌∙◌}
 use Rattle.zre_journal.specs.Events.{chronicle}
 use Rattle.zre_journal.specs.Peers.{lives}
-use Rattle.zre_node.proofs.Asking.{rows}
-use Rattle.zre_node.proofs.Datagram.{link_in_rows}
+use Rattle.zre_node.proofs.RowsAnswerDefinitions.{rows}
+use Rattle.zre_node.proofs.MarksOfDatagrams.{link_in_rows}
 use Rattle.zre_node.proofs.node.Node.link_of.Goals as goal
 
 pub returns : goal.returns

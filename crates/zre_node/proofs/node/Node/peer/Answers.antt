@@ -1,7 +1,7 @@
 use Rattle.std.proofs.Common.{◌∙◌}
 use Rattle.zre_journal.specs.Events.{chronicle}
 use Rattle.zre_journal.specs.Peers.{lives}
-use Rattle.zre_node.proofs.Asking.{rows, view_found}
+use Rattle.zre_node.proofs.RowsAnswerDefinitions.{rows, view_found}
 use Rattle.zre_node.proofs.node.Node.peer.Goals as goal
 
 pub returns : goal.returns

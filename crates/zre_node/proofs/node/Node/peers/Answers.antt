@@ -2,7 +2,7 @@ use Rattle.std.proofs.Common.{◌≡◌, List, IfOk, subst}
 use Rattle.zre_values.specs.declared.peer_id.PeerId.{PeerId}
 use Rattle.zre_journal.specs.Events.{chronicle}
 use Rattle.zre_journal.specs.Peers.{lives}
-use Rattle.zre_node.proofs.Asking.{rows, all_entered}
+use Rattle.zre_node.proofs.RowsAnswerDefinitions.{rows, all_entered}
 use Rattle.zre_node.proofs.node.Node.peers.Goals as goal
 
 pub returns : goal.returns

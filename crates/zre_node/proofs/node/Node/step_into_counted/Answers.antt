@@ -5,7 +5,7 @@ use Rattle.zre_outside.specs.declared.entry.Input.{Input}
 use Rattle.zre_outside.specs.declared.entry.Input.TheVariants as input
 use Rattle.zre_node.specs.Journal.{IsStep}
 use Rattle.zre_node.specs.Kinds.{piece_entry}
-use Rattle.zre_node.proofs.Stepping.{keeps_its_ledgers}
+use Rattle.zre_node.proofs.OneEntryOfNode.{keeps_its_ledgers}
 use Rattle.zre_node.proofs.node.Node.step_into_counted.Goals as goal
 
 pub returns-in-Piece-clause-ledgers : goal.returns-in-Piece-clause-ledgers

@@ -2,8 +2,8 @@ use Rattle.std.proofs.Common.{arith, sym, ap, ◌∙◌}
 use Rattle.zre_journal.specs.Events.{chronicle}
 use Rattle.zre_node.specs.Kinds.{piece_entry}
 use Rattle.zre_node.specs.declared.node.Node.{Node}
-use Rattle.zre_node.proofs.Looking.{kept_happened, idle_lowers}
-use Rattle.zre_node.proofs.Stepping.{finished, begun, took_nothing}
+use Rattle.zre_node.proofs.LooksOfEntries.{kept_happened, idle_lowers}
+use Rattle.zre_node.proofs.OneEntryOfNode.{finished, begun, took_nothing}
 use Rattle.zre_node.proofs.node.Node.step_lent.Goals as goal
 use Rattle.zre_node.proofs.node.Node.step_lent.Goals.{then-not-self+in_ok-take_piece, else-not-self}
 

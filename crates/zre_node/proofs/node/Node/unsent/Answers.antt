@@ -3,7 +3,7 @@ use Rattle.std.specs.Prelude.{Option, option_map}
 use Rattle.zre_journal.specs.Events.{chronicle}
 use Rattle.zre_journal.specs.Links.{line, is_linked, replies, taken, unsent}
 use Rattle.zre_journal.specs.Peers.{Life}
-use Rattle.zre_node.proofs.Asking.{answered, unasked}
+use Rattle.zre_node.proofs.RowsAnswerDefinitions.{answered, unasked}
 use Rattle.zre_node.proofs.node.Node.unsent.Goals as goal
 
 pub returns-in-Some : goal.returns-in-Some

@@ -3,7 +3,7 @@ use Rattle.std.specs.Prelude.{Option, option_map}
 use Rattle.zre_journal.specs.Events.{chronicle}
 use Rattle.zre_journal.specs.Links.{line, is_linked, replies, taken, text}
 use Rattle.zre_journal.specs.Peers.{Life}
-use Rattle.zre_node.proofs.Asking.{asked, answered, unasked}
+use Rattle.zre_node.proofs.RowsAnswerDefinitions.{asked, answered, unasked}
 use Rattle.zre_node.proofs.node.Node.waiting.Goals as goal
 
 pub returns-in-Some-clause-octets : goal.returns-in-Some-clause-octets

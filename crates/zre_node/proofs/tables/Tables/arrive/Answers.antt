@@ -10,7 +10,7 @@ use Rattle.zre_journal.specs.Chronicle.{Mark}
 use Rattle.zre_journal.specs.Connections.{runs}
 use Rattle.zre_node.specs.Said.{at_item, at_read}
 use Rattle.zre_node.specs.Stands.{Did}
-use Rattle.zre_node.proofs.Lendings.{comes_later}
+use Rattle.zre_node.proofs.LentPieces.{comes_later}
 use Rattle.zre_node.proofs.tables.Tables.arrive.Goals as goal
 
 pub returns-in-Message-Some : goal.returns-in-Message-Some

@@ -1,4 +1,4 @@
-use Rattle.zre_node.proofs.Hearings.{one_more_item}
+use Rattle.zre_node.proofs.ItemsHeard.{one_more_item}
 use Rattle.zre_node.proofs.tables.Tables.arrive_all.Goals as goal
 
 pub loop-item-preserved : goal.loop-item-preserved

@@ -1,4 +1,4 @@
-use Rattle.zre_node.proofs.Taking.{others_about_links}
+use Rattle.zre_node.proofs.WholeEntries.{others_about_links}
 use Rattle.zre_node.proofs.tables.Tables.bring.Goals as goal
 
 pub returns-in_default : goal.returns-in_default

@@ -1,4 +1,4 @@
-use Rattle.zre_node.proofs.Linking.{linked_did, took_did, other_input}
+use Rattle.zre_node.proofs.EffectsOnLinks.{linked_did, took_did, other_input}
 use Rattle.zre_node.proofs.tables.Tables.bring_link.Goals as goal
 use Rattle.zre_node.proofs.tables.Tables.bring_link.Goals.{in-Linked, in-Unlinked, in-Took, in_default}
 

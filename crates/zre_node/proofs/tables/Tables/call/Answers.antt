@@ -6,7 +6,7 @@ use Rattle.zre_journal.specs.Chronicle.{SendsBeacon}
 use Rattle.zre_node.specs.declared.effects.Effects.{Effects}
 use Rattle.zre_values.proofs.Answered.{on_ok}
 use Rattle.zre_node.proofs.MarksAfterMarks.{did_by}
-use Rattle.zre_node.proofs.Ticking.{holds_calls}
+use Rattle.zre_node.proofs.TicksOfTables.{holds_calls}
 use Rattle.zre_node.proofs.tables.Tables.call.Goals as goal
 
 pub returns : goal.returns

@@ -1,7 +1,7 @@
 use Rattle.zre_peer.specs.declared.causes.CloseWhy.TheVariants as close
 use Rattle.zre_journal.specs.Chronicle.{Closes}
 use Rattle.zre_node.proofs.MarksAfterMarks.{one_more, all_done}
-use Rattle.zre_node.proofs.Ticking.{idle_at}
+use Rattle.zre_node.proofs.TicksOfTables.{idle_at}
 use Rattle.zre_node.proofs.tables.Tables.close_all.Goals as goal
 
 pub loop-conn-preserved : goal.loop-conn-preserved

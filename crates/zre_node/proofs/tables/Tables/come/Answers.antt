@@ -1,7 +1,7 @@
 use Rattle.std.proofs.Common.{ℕ, ◌∷◌, max, ap, sym, ◌∙◌, subst}
 use Rattle.zre_journal.specs.Chronicle.{Comes}
 use Rattle.zre_node.specs.Stands.{Holds}
-use Rattle.zre_node.proofs.Coming.{quietly}
+use Rattle.zre_node.proofs.EntriesThatCome.{quietly}
 use Rattle.zre_node.proofs.tables.Tables.come.Goals as goal
 
 pub returns : goal.returns

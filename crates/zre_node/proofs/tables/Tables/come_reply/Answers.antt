@@ -6,9 +6,9 @@ use Rattle.zre_journal.specs.Held.{kept}
 use Rattle.zre_tables.specs.declared.peer.Peer.{Peer}
 use Rattle.zre_node.specs.Links.{IsReplied}
 use Rattle.zre_node.specs.Stands.{IsPeer}
-use Rattle.zre_node.proofs.Looking.{replied_looks, unknown_looks}
-use Rattle.zre_node.proofs.Parting.{Found, Missing, peer_row}
-use Rattle.zre_node.proofs.Replying.{not_replied, replied}
+use Rattle.zre_node.proofs.LooksOfEntries.{replied_looks, unknown_looks}
+use Rattle.zre_node.proofs.RowsOfKnownPeers.{Found, Missing, peer_row}
+use Rattle.zre_node.proofs.RepliesOnLinks.{not_replied, replied}
 use Rattle.zre_node.proofs.tables.Tables.come_reply.Goals as goal
 
 pub returns-clause-came : goal.returns-clause-came

@@ -1,8 +1,8 @@
 use Rattle.std.proofs.Common.{refl, sym, ◌∙◌}
 use Rattle.zre_journal.specs.Chronicle.{HearsBeacon}
-use Rattle.zre_node.proofs.Datagram.{ends_it, renews_it, bears_it, leaves_it, welcome_is, known_by, unknown_by}
+use Rattle.zre_node.proofs.MarksOfDatagrams.{ends_it, renews_it, bears_it, leaves_it, welcome_is, known_by, unknown_by}
 use Rattle.zre_node.proofs.MarksAfterMarks.{idle_did, silent_did}
-use Rattle.zre_node.proofs.Parting.{nearly}
+use Rattle.zre_node.proofs.RowsOfKnownPeers.{nearly}
 use Rattle.zre_node.proofs.tables.Tables.datagram.Goals as goal
 
 pub returns-then-port-eq0 : goal.returns-then-port-eq0

@@ -2,7 +2,7 @@ use Rattle.std.proofs.Common.{[], ◌∷◌, take, refl, sym, ap, ◌∙◌, app
 use Rattle.zre_journal.specs.Chronicle.{ClosesAtStop}
 use Rattle.zre_node.specs.declared.effects.Effects.{Effects}
 use Rattle.zre_node.proofs.MarksAfterMarks.{did_by, one_more, all_done}
-use Rattle.zre_node.proofs.Opening.{dropped, drops_run}
+use Rattle.zre_node.proofs.ConnectionsComeAndGo.{dropped, drops_run}
 use Rattle.zre_node.proofs.tables.Tables.drop_all.Goals as goal
 
 pub loop-conn-preserved : goal.loop-conn-preserved

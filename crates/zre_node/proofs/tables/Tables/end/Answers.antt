@@ -1,6 +1,6 @@
 use Rattle.zre_journal.specs.Peers.{life}
 use Rattle.zre_node.specs.Stands.{IsBut}
-use Rattle.zre_node.proofs.Parting.{parts, no_row, not_missing}
+use Rattle.zre_node.proofs.RowsOfKnownPeers.{parts, no_row, not_missing}
 use Rattle.zre_node.proofs.tables.Tables.end.Goals as goal
 
 pub returns-in_default : goal.returns-in_default

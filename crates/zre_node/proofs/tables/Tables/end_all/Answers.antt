@@ -1,6 +1,6 @@
 use Rattle.zre_journal.specs.Chronicle.{Ends}
 use Rattle.zre_node.proofs.MarksAfterMarks.{one_more, all_done, known_at}
-use Rattle.zre_node.proofs.Parting.{nearly}
+use Rattle.zre_node.proofs.RowsOfKnownPeers.{nearly}
 use Rattle.zre_node.proofs.tables.Tables.end_all.Goals as goal
 
 pub loop-link-preserved : goal.loop-link-preserved

@@ -1,5 +1,5 @@
 use Rattle.zre_node.proofs.MarksAfterMarks.{idle_did}
-use Rattle.zre_node.proofs.Parting.{nearly}
+use Rattle.zre_node.proofs.RowsOfKnownPeers.{nearly}
 use Rattle.zre_node.proofs.tables.Tables.end_by_reply.Goals as goal
 
 pub returns-in-Some : goal.returns-in-Some

@@ -1,6 +1,6 @@
 use Rattle.std.proofs.Common.{sym}
 use Rattle.zre_journal.proofs.ProperKept.{run_known}
-use Rattle.zre_node.proofs.Parting.{nearly}
+use Rattle.zre_node.proofs.RowsOfKnownPeers.{nearly}
 use Rattle.zre_node.proofs.tables.Tables.end_run.Goals as goal
 
 pub returns-in-Some : goal.returns-in-Some

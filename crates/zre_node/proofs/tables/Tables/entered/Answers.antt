@@ -1,5 +1,5 @@
 use Rattle.std.proofs.Common.{sym, ◌∙◌}
-use Rattle.zre_node.proofs.Commanding.{unknown, has_row, entered_by, not_entered}
+use Rattle.zre_node.proofs.MarksOfCommands.{unknown, has_row, entered_by, not_entered}
 use Rattle.zre_node.proofs.tables.Tables.entered.Goals as goal
 
 pub returns-in_default : goal.returns-in_default

@@ -7,9 +7,9 @@ use Rattle.zre_journal.specs.Connections.{runs}
 use Rattle.zre_journal.specs.Arrivals.{end_of_run}
 use Rattle.zre_journal.proofs.Idle.{idle_then}
 use Rattle.zre_values.proofs.Answered.{on_ok}
-use Rattle.zre_node.proofs.Faulting.{dead_places, fault_live, stands_not, stands_so}
+use Rattle.zre_node.proofs.FaultsOnConnections.{dead_places, fault_live, stands_not, stands_so}
 use Rattle.zre_node.proofs.MarksAfterMarks.{did_as, did_then, idle_did}
-use Rattle.zre_node.proofs.Starting.{live_open}
+use Rattle.zre_node.proofs.FirstMessages.{live_open}
 use Rattle.zre_node.proofs.tables.Tables.fault.Goals as goal
 
 pub returns-then-is_none : goal.returns-then-is_none

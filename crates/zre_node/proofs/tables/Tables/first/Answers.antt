@@ -10,7 +10,7 @@ use Rattle.zre_journal.specs.Told.{told}
 use Rattle.zre_journal.proofs.ProperKept.{newborn}
 use Rattle.zre_node.specs.Stands.{Holds}
 use Rattle.zre_node.proofs.MarksAfterMarks.{did_as, did_by}
-use Rattle.zre_node.proofs.Starting.{first_starts, known_starts, new_starts, nowhere_starts, newborn_known, its_own_life, starts_tell, new_did, untold_did, on_did_as}
+use Rattle.zre_node.proofs.FirstMessages.{first_starts, known_starts, new_starts, nowhere_starts, newborn_known, its_own_life, starts_tell, new_did, untold_did, on_did_as}
 use Rattle.zre_node.proofs.tables.Tables.first.Goals as goal
 
 pub returns-in-Ok : goal.returns-in-Ok

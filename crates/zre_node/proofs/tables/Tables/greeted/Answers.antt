@@ -4,7 +4,7 @@ use Rattle.zre_journal.specs.Chronicle.{Greets}
 use Rattle.zre_node.specs.declared.effects.Effects.{Effects}
 use Rattle.zre_values.proofs.Answered.{on_ok}
 use Rattle.zre_node.proofs.MarksAfterMarks.{did_by}
-use Rattle.zre_node.proofs.Shaking.{greets}
+use Rattle.zre_node.proofs.ReadyOnConnections.{greets}
 use Rattle.zre_node.proofs.tables.Tables.greeted.Goals as goal
 
 pub returns : goal.returns

@@ -4,8 +4,8 @@ use Rattle.zre_values.specs.declared.settings.Settings.{Settings as Config}
 use Rattle.zre_journal.specs.Pushes.{hello}
 use Rattle.zre_link.specs.Link.{Sending, link_after}
 use Rattle.zre_link.specs.Text.{Says}
-use Rattle.zre_node.proofs.Coming.{ok_of, at_ok}
-use Rattle.zre_node.proofs.Copying.{same_hello}
+use Rattle.zre_node.proofs.EntriesThatCome.{ok_of, at_ok}
+use Rattle.zre_node.proofs.CopiedLists.{same_hello}
 use Rattle.zre_node.proofs.tables.Tables.greeted_link.Goals as goal
 
 pub returns : goal.returns

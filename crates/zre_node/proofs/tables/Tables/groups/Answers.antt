@@ -1,5 +1,5 @@
 use Rattle.std.proofs.Common.{◌++◌, ◌∷◌, [], ap, sym, ◌∙◌, List, ℕ, Some}
-use Rattle.zre_node.proofs.Copying.{take_next}
+use Rattle.zre_node.proofs.CopiedLists.{take_next}
 use Rattle.zre_node.proofs.tables.Tables.groups.Goals as goal
 
 pub loop-i-preserved : goal.loop-i-preserved

@@ -1,6 +1,6 @@
 use Rattle.zre_node.specs.Stands.{kept_conn}
-use Rattle.zre_node.proofs.Ending.{conn_row}
-use Rattle.zre_node.proofs.Shaking.{introduced}
+use Rattle.zre_node.proofs.EndsOfPeers.{conn_row}
+use Rattle.zre_node.proofs.ReadyOnConnections.{introduced}
 use Rattle.zre_node.proofs.tables.Tables.introduce.Goals as goal
 
 pub returns : goal.returns

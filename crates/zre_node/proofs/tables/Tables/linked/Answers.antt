@@ -5,7 +5,7 @@ use Rattle.zre_journal.specs.Links.{line, is_linked, replies, taken}
 use Rattle.zre_journal.specs.Peers.{life}
 use Rattle.zre_tables.specs.declared.peer.Peer.{Peer}
 use Rattle.zre_node.specs.Stands.{Holds}
-use Rattle.zre_node.proofs.Linking.{at_link, linked_holds, unlinked_holds}
+use Rattle.zre_node.proofs.EffectsOnLinks.{at_link, linked_holds, unlinked_holds}
 use Rattle.zre_node.proofs.tables.Tables.linked.Goals as goal
 
 pub returns : goal.returns

@@ -4,7 +4,7 @@ use Rattle.zre_outside.specs.declared.act.Act.{Act}
 use Rattle.zre_journal.specs.Peers.{lives}
 use Rattle.zre_values.proofs.Answered.{on_ok}
 use Rattle.zre_node.specs.Offers.{offered}
-use Rattle.zre_node.proofs.Offering.{among, none_offered}
+use Rattle.zre_node.proofs.OffersOfRows.{among, none_offered}
 use Rattle.zre_node.proofs.tables.Tables.offer.Goals as goal
 
 pub returns-then-len-eq0 : goal.returns-then-len-eq0

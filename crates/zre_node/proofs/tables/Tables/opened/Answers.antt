@@ -6,7 +6,7 @@ use Rattle.zre_tables.specs.declared.connection.Connection.{Connection}
 use Rattle.zre_node.specs.declared.effects.Effects.{Effects}
 use Rattle.zre_values.proofs.Answered.{on_ok}
 use Rattle.zre_node.proofs.MarksAfterMarks.{did_as, did_by}
-use Rattle.zre_node.proofs.Opening.{open_count, opens, turns_away, too_many, has_room}
+use Rattle.zre_node.proofs.ConnectionsComeAndGo.{open_count, opens, turns_away, too_many, has_room}
 use Rattle.zre_node.proofs.tables.Tables.opened.Goals as goal
 
 pub returns-then-len-ge-CONNECTIONS : goal.returns-then-len-ge-CONNECTIONS

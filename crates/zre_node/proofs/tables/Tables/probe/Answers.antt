@@ -7,9 +7,9 @@ use Rattle.zre_tables.specs.declared.peer.Peer.{Peer}
 use Rattle.zre_node.specs.Stands.{Holds, IsPeer}
 use Rattle.zre_values.proofs.Answered.{on_ok}
 use Rattle.zre_node.proofs.MarksAfterMarks.{did_as, did_then}
-use Rattle.zre_node.proofs.Parting.{nearly, known_row}
-use Rattle.zre_node.proofs.Pushing.{row_link, puts_it, fits, is_slow, put_did}
-use Rattle.zre_node.proofs.Ticking.{told_so}
+use Rattle.zre_node.proofs.RowsOfKnownPeers.{nearly, known_row}
+use Rattle.zre_node.proofs.BodyOnOneLink.{row_link, puts_it, fits, is_slow, put_did}
+use Rattle.zre_node.proofs.TicksOfTables.{told_so}
 use Rattle.zre_node.proofs.tables.Tables.probe.Goals as goal
 
 pub returns-in-Ok : goal.returns-in-Ok

@@ -1,6 +1,6 @@
 use Rattle.zre_node.specs.Ticks.{probes}
 use Rattle.zre_node.proofs.MarksAfterMarks.{one_more_link, all_links}
-use Rattle.zre_node.proofs.Ticking.{entered_at}
+use Rattle.zre_node.proofs.TicksOfTables.{entered_at}
 use Rattle.zre_node.proofs.tables.Tables.probe_all.Goals as goal
 
 pub loop-link-preserved : goal.loop-link-preserved

@@ -5,8 +5,8 @@ use Rattle.zre_tables.specs.declared.peer.Peer.{Peer}
 use Rattle.zre_node.specs.Stands.{Holds, IsPeer}
 use Rattle.zre_values.proofs.Answered.{on_ok}
 use Rattle.zre_node.proofs.MarksAfterMarks.{did_as}
-use Rattle.zre_node.proofs.Parting.{nearly, known_row}
-use Rattle.zre_node.proofs.Pushing.{row_link, puts_it, fits, is_slow, put_did}
+use Rattle.zre_node.proofs.RowsOfKnownPeers.{nearly, known_row}
+use Rattle.zre_node.proofs.BodyOnOneLink.{row_link, puts_it, fits, is_slow, put_did}
 use Rattle.zre_node.proofs.tables.Tables.push.Goals as goal
 
 pub returns-in-Ok-clause-did : goal.returns-in-Ok-clause-did

@@ -4,7 +4,7 @@ use Rattle.zre_msg.specs.Spelling.{FitsBody}
 use Rattle.zre_journal.specs.Chronicle.{Mark, in_turn, after}
 use Rattle.zre_journal.specs.Pushes.{push}
 use Rattle.zre_node.specs.Stands.{Did}
-use Rattle.zre_node.proofs.Broadcasting.{known_in_turn}
+use Rattle.zre_node.proofs.BodyOnSeveralLinks.{known_in_turn}
 use Rattle.zre_node.proofs.MarksAfterMarks.{one_more_link, all_links}
 use Rattle.zre_node.proofs.tables.Tables.push_all.Goals as goal
 

@@ -1,9 +1,9 @@
 use Rattle.std.proofs.Common.{ℕ, sym, ◌∙◌, subst, List}
 use Rattle.zre_journal.specs.Peers.{lives}
 use Rattle.zre_node.specs.Stands.{AreKnown}
-use Rattle.zre_node.proofs.Broadcasting.{push_links}
-use Rattle.zre_node.proofs.Starting.{on_did_as}
-use Rattle.zre_node.proofs.Stopping.{links_are, all_known}
+use Rattle.zre_node.proofs.BodyOnSeveralLinks.{push_links}
+use Rattle.zre_node.proofs.FirstMessages.{on_did_as}
+use Rattle.zre_node.proofs.StopOfNode.{links_are, all_known}
 use Rattle.zre_node.proofs.tables.Tables.push_everywhere.Goals as goal
 
 pub returns : goal.returns

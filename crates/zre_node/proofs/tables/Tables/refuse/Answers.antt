@@ -3,9 +3,9 @@ use Rattle.zre_journal.specs.Chronicle.{Ignores}
 use Rattle.zre_node.specs.declared.effects.Effects.{Effects}
 use Rattle.zre_node.specs.Stands.{kept_conn}
 use Rattle.zre_values.proofs.Answered.{on_ok}
-use Rattle.zre_node.proofs.Ending.{conn_row}
+use Rattle.zre_node.proofs.EndsOfPeers.{conn_row}
 use Rattle.zre_node.proofs.MarksAfterMarks.{did_by}
-use Rattle.zre_node.proofs.Starting.{live_open, refused}
+use Rattle.zre_node.proofs.FirstMessages.{live_open, refused}
 use Rattle.zre_node.proofs.tables.Tables.refuse.Goals as goal
 
 pub returns : goal.returns

@@ -1,6 +1,6 @@
 use Rattle.std.proofs.Common.{◌≡◌, ◌≢◌, sym, ◌∙◌}
 use Rattle.zre_peer.specs.declared.peer_run.RunFault.TheVariants as fault
-use Rattle.zre_node.proofs.Starting.{first_refused, on_did_as}
+use Rattle.zre_node.proofs.FirstMessages.{first_refused, on_did_as}
 use Rattle.zre_node.proofs.tables.Tables.refuse_by.Goals as goal
 
 pub returns-in-NotHello-clause-did : goal.returns-in-NotHello-clause-did

@@ -1,7 +1,7 @@
 use Rattle.std.proofs.Common.{sym}
 use Rattle.zre_node.specs.Stands.{IsPeer}
-use Rattle.zre_node.proofs.Birth.{renewed}
-use Rattle.zre_node.proofs.Parting.{known_row}
+use Rattle.zre_node.proofs.BirthsAndBeacons.{renewed}
+use Rattle.zre_node.proofs.RowsOfKnownPeers.{known_row}
 use Rattle.zre_node.proofs.tables.Tables.renew.Goals as goal
 
 pub returns : goal.returns

@@ -1,6 +1,6 @@
 use Rattle.std.proofs.Common.{ap, ◌∙◌}
 use Rattle.zre_tables.specs.declared.connection.Connection.{Connection}
-use Rattle.zre_node.proofs.Ending.{row_conn, conn_row}
+use Rattle.zre_node.proofs.EndsOfPeers.{row_conn, conn_row}
 use Rattle.zre_node.proofs.tables.Tables.run_of.Goals as goal
 
 pub returns-in-Some : goal.returns-in-Some

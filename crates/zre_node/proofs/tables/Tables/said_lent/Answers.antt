@@ -7,7 +7,7 @@ use Rattle.zre_zmtp.specs.declared.item.What.TheVariants.{Message}
 use Rattle.zre_journal.specs.Connections.{is_live, runs}
 use Rattle.zre_node.specs.Said.{at_item, at_read}
 use Rattle.zre_node.specs.Stands.{Did}
-use Rattle.zre_node.proofs.Lendings.{one_arrives, comes_later}
+use Rattle.zre_node.proofs.LentPieces.{one_arrives, comes_later}
 use Rattle.zre_node.proofs.MarksAfterMarks.{did_as, idle_did}
 use Rattle.zre_node.proofs.tables.Tables.said_lent.Goals as goal
 

@@ -3,7 +3,7 @@ use Rattle.zre_journal.specs.Chronicle.{Shakes}
 use Rattle.zre_journal.specs.Arrivals.{taken_over}
 use Rattle.zre_journal.proofs.Idle.{gave_way}
 use Rattle.zre_node.proofs.MarksAfterMarks.{did_as, did_then, silent_did}
-use Rattle.zre_node.proofs.Shaking.{other_found, other_open}
+use Rattle.zre_node.proofs.ReadyOnConnections.{other_found, other_open}
 use Rattle.zre_node.proofs.tables.Tables.shaken.Goals as goal
 
 pub returns : goal.returns

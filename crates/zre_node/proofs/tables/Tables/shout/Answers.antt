@@ -8,10 +8,10 @@ use Rattle.zre_journal.specs.Pushes.{push}
 use Rattle.zre_tables.specs.Views.{row_in}
 use Rattle.zre_node.specs.Stands.{AreKnown, Did}
 use Rattle.zre_tables.specs.Rows.{numbers_of}
-use Rattle.zre_node.proofs.Broadcasting.{push_links, members_are, some_known}
-use Rattle.zre_node.proofs.Commanding.{shouts}
-use Rattle.zre_node.proofs.Starting.{on_did_as}
-use Rattle.zre_node.proofs.Stopping.{link_list}
+use Rattle.zre_node.proofs.BodyOnSeveralLinks.{push_links, members_are, some_known}
+use Rattle.zre_node.proofs.MarksOfCommands.{shouts}
+use Rattle.zre_node.proofs.FirstMessages.{on_did_as}
+use Rattle.zre_node.proofs.StopOfNode.{link_list}
 use Rattle.zre_node.proofs.tables.Tables.shout.Goals as goal
 
 pub returns : goal.returns

@@ -2,7 +2,7 @@ use Rattle.std.proofs.Common.{List, take}
 use Rattle.zre_msg.specs.declared.message.Body.TheVariants as body
 use Rattle.zre_journal.specs.Chronicle.{Mark, in_turn, after}
 use Rattle.zre_journal.specs.Pushes.{push}
-use Rattle.zre_node.proofs.Broadcasting.{known_in_turn}
+use Rattle.zre_node.proofs.BodyOnSeveralLinks.{known_in_turn}
 use Rattle.zre_node.proofs.MarksAfterMarks.{one_more_link, all_links}
 use Rattle.zre_node.proofs.tables.Tables.shout_all.Goals as goal
 

@@ -4,9 +4,9 @@ use Rattle.zre_journal.specs.Connections.{runs}
 use Rattle.zre_journal.specs.Arrivals.{end_of_run}
 use Rattle.zre_journal.proofs.Idle.{idle_then}
 use Rattle.zre_peer.specs.declared.causes.Cause.TheVariants as cause
-use Rattle.zre_node.proofs.Ending.{some_row}
+use Rattle.zre_node.proofs.EndsOfPeers.{some_row}
 use Rattle.zre_node.proofs.MarksAfterMarks.{did_as, did_then, silent_did, idle_did}
-use Rattle.zre_node.proofs.Opening.{is_shut, shut_not_open, shut_open}
+use Rattle.zre_node.proofs.ConnectionsComeAndGo.{is_shut, shut_not_open, shut_open}
 use Rattle.zre_node.proofs.tables.Tables.shut.Goals as goal
 
 pub returns-then-not-contains : goal.returns-then-not-contains

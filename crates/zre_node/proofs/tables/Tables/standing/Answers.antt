@@ -1,6 +1,6 @@
 use Rattle.std.proofs.Common.{◌∙◌, ap, not}
 use Rattle.zre_tables.specs.declared.connection.Connection.{Connection}
-use Rattle.zre_node.proofs.Ending.{no_conn, row_conn, live_by, not_live}
+use Rattle.zre_node.proofs.EndsOfPeers.{no_conn, row_conn, live_by, not_live}
 use Rattle.zre_node.proofs.tables.Tables.standing.Goals as goal
 
 pub returns-in_default : goal.returns-in_default

@@ -1,8 +1,8 @@
 use Rattle.std.proofs.Common.{Some, refl, sym}
 use Rattle.zre_node.specs.Stands.{IsPeer, kept_conn}
-use Rattle.zre_node.proofs.Ending.{conn_row}
-use Rattle.zre_node.proofs.Parting.{peer_of}
-use Rattle.zre_node.proofs.Starting.{live_open, starts}
+use Rattle.zre_node.proofs.EndsOfPeers.{conn_row}
+use Rattle.zre_node.proofs.RowsOfKnownPeers.{peer_of}
+use Rattle.zre_node.proofs.FirstMessages.{live_open, starts}
 use Rattle.zre_node.proofs.tables.Tables.start.Goals as goal
 
 pub returns : goal.returns

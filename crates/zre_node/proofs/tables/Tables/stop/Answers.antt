@@ -5,7 +5,7 @@ use Rattle.zre_peer.specs.declared.event.Event.TheVariants as event
 use Rattle.zre_values.specs.declared.settings.Settings.{Settings as Config}
 use Rattle.zre_node.specs.declared.effects.Effects.{Effects}
 use Rattle.zre_node.specs.Stands.{AreKnown}
-use Rattle.zre_node.proofs.Stopping.{links_are, numbers_are, all_known, none_known_by, run_none, stops}
+use Rattle.zre_node.proofs.StopOfNode.{links_are, numbers_are, all_known, none_known_by, run_none, stops}
 use Rattle.zre_node.proofs.tables.Tables.stop.Goals as goal
 
 pub returns : goal.returns

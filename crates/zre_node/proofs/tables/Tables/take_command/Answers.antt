@@ -3,9 +3,9 @@ use Rattle.zre_outside.specs.declared.entry.Input.{Input}
 use Rattle.zre_journal.specs.Chronicle.{Comes}
 use Rattle.zre_journal.specs.Happens.{at_input}
 use Rattle.zre_node.specs.Stands.{Did}
-use Rattle.zre_node.proofs.Commanding.{command_quiet}
+use Rattle.zre_node.proofs.MarksOfCommands.{command_quiet}
 use Rattle.zre_values.proofs.Answered.{on_ok}
-use Rattle.zre_node.proofs.Taking.{took}
+use Rattle.zre_node.proofs.WholeEntries.{took}
 use Rattle.zre_node.proofs.tables.Tables.take_command.Goals as goal
 
 pub returns : goal.returns

@@ -8,9 +8,9 @@ use Rattle.zre_values.proofs.Answered.{on_ok}
 use Rattle.zre_node.specs.Brings.{octets_of}
 use Rattle.zre_node.specs.Kinds.{piece_entry}
 use Rattle.zre_node.specs.Said.{said_in}
-use Rattle.zre_node.proofs.Looking.{less_looks, entry_lowers, err_looks}
+use Rattle.zre_node.proofs.LooksOfEntries.{less_looks, entry_lowers, err_looks}
 use Rattle.zre_node.proofs.MarksAfterMarks.{did_as}
-use Rattle.zre_node.proofs.Taking.{piece_marks, unnamed_piece, took}
+use Rattle.zre_node.proofs.WholeEntries.{piece_marks, unnamed_piece, took}
 use Rattle.zre_node.proofs.tables.Tables.take_fed.Goals as goal
 
 pub returns-clause-took : goal.returns-clause-took

@@ -6,7 +6,7 @@ use Rattle.zre_node.specs.Kinds.{is_incoming}
 use Rattle.zre_node.specs.Links.{Notes}
 use Rattle.zre_node.specs.Stands.{Did}
 use Rattle.zre_values.proofs.Answered.{on_ok}
-use Rattle.zre_node.proofs.Taking.{quiet_incoming, took_noted}
+use Rattle.zre_node.proofs.WholeEntries.{quiet_incoming, took_noted}
 use Rattle.zre_node.proofs.tables.Tables.take_incoming.Goals as goal
 
 pub returns : goal.returns

@@ -4,7 +4,7 @@ use Rattle.zre_zmtp.specs.Looks.{Looks}
 use Rattle.zre_journal.specs.Happens.{with_entry}
 use Rattle.zre_journal.specs.Held.{kept}
 use Rattle.zre_node.specs.Brings.{octets_of}
-use Rattle.zre_node.proofs.Looking.{quiet_looks, quiet_other}
+use Rattle.zre_node.proofs.LooksOfEntries.{quiet_looks, quiet_other}
 use Rattle.zre_node.proofs.tables.Tables.take_other.Goals as goal
 
 pub returns-in-Reply-clause-looks : goal.returns-in-Reply-clause-looks

@@ -10,10 +10,10 @@ use Rattle.zre_node.specs.Kinds.{piece_entry}
 use Rattle.zre_node.specs.Said.{ComesLent}
 use Rattle.zre_node.specs.Stands.{Holds}
 use Rattle.zre_node.specs.declared.tables.Tables.{Tables}
-use Rattle.zre_node.proofs.Lendings.{message_taken, part_taken}
-use Rattle.zre_node.proofs.Looking.{less_looks, entry_lowers, err_looks}
+use Rattle.zre_node.proofs.LentPieces.{message_taken, part_taken}
+use Rattle.zre_node.proofs.LooksOfEntries.{less_looks, entry_lowers, err_looks}
 use Rattle.zre_node.proofs.MarksAfterMarks.{did_as, idle_did}
-use Rattle.zre_node.proofs.Taking.{piece_marks, unnamed_piece, took}
+use Rattle.zre_node.proofs.WholeEntries.{piece_marks, unnamed_piece, took}
 use Rattle.zre_node.proofs.tables.Tables.take_piece.Goals as goal
 
 pub returns-in_err-bodies-clause-looks : goal.returns-in_err-bodies-clause-looks

@@ -6,11 +6,11 @@ use Rattle.zre_journal.specs.LinkEntries.{end_by}
 use Rattle.zre_node.specs.Links.{pongs}
 use Rattle.zre_node.specs.declared.effects.Effects.{Effects}
 use Rattle.zre_values.proofs.Answered.{on_ok}
-use Rattle.zre_node.proofs.Linking.{noted, reply_marks, reply_names}
-use Rattle.zre_node.proofs.Looking.{less_looks, entry_lowers, err_looks}
+use Rattle.zre_node.proofs.EffectsOnLinks.{noted, reply_marks, reply_names}
+use Rattle.zre_node.proofs.LooksOfEntries.{less_looks, entry_lowers, err_looks}
 use Rattle.zre_node.proofs.MarksAfterMarks.{did_as, did_then}
-use Rattle.zre_node.proofs.Replying.{pongs_did}
-use Rattle.zre_node.proofs.Taking.{took_noted}
+use Rattle.zre_node.proofs.RepliesOnLinks.{pongs_did}
+use Rattle.zre_node.proofs.WholeEntries.{took_noted}
 use Rattle.zre_node.proofs.tables.Tables.take_reply.Goals as goal
 
 pub returns-clause-took : goal.returns-clause-took

@@ -1,5 +1,5 @@
 use Rattle.zre_values.proofs.Answered.{on_ok}
-use Rattle.zre_node.proofs.Taking.{ending, took_stop}
+use Rattle.zre_node.proofs.WholeEntries.{ending, took_stop}
 use Rattle.zre_node.proofs.tables.Tables.take_stop.Goals as goal
 
 pub returns : goal.returns

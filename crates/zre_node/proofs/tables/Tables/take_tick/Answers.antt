@@ -3,8 +3,8 @@ use Rattle.zre_journal.specs.Chronicle.{Comes}
 use Rattle.zre_journal.specs.Happens.{at_input}
 use Rattle.zre_values.proofs.Answered.{on_ok}
 use Rattle.zre_node.proofs.MarksAfterMarks.{did_as}
-use Rattle.zre_node.proofs.Taking.{took}
-use Rattle.zre_node.proofs.Ticking.{tick_named, tick_input}
+use Rattle.zre_node.proofs.WholeEntries.{took}
+use Rattle.zre_node.proofs.TicksOfTables.{tick_named, tick_input}
 use Rattle.zre_node.proofs.tables.Tables.take_tick.Goals as goal
 
 pub returns : goal.returns

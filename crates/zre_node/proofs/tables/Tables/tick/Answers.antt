@@ -5,7 +5,7 @@ use Rattle.zre_tables.specs.declared.peer.Peer.{Peer}
 use Rattle.zre_tables.specs.Rows.{numbers_of}
 use Rattle.zre_tables.specs.Searches.{row_evasive}
 use Rattle.zre_node.specs.Stands.{Holds}
-use Rattle.zre_node.proofs.Ticking.{silent_are, evasive_are, stale_are, expiring_known, expire, wavering_entered, probe_then, stale_idle, ticks}
+use Rattle.zre_node.proofs.TicksOfTables.{silent_are, evasive_are, stale_are, expiring_known, expire, wavering_entered, probe_then, stale_idle, ticks}
 use Rattle.zre_node.proofs.tables.Tables.tick.Goals as goal
 
 pub returns : goal.returns

@@ -1,9 +1,9 @@
 use Rattle.std.proofs.Common.{[], sym, ◌∙◌}
 use Rattle.zre_journal.specs.Peers.{life}
-use Rattle.zre_node.proofs.Linking.{some_peer, no_break, break}
+use Rattle.zre_node.proofs.EffectsOnLinks.{some_peer, no_break, break}
 use Rattle.zre_node.proofs.MarksAfterMarks.{did_as, idle_did}
-use Rattle.zre_node.proofs.Parting.{nearly}
-use Rattle.zre_node.proofs.Starting.{on_did_as}
+use Rattle.zre_node.proofs.RowsOfKnownPeers.{nearly}
+use Rattle.zre_node.proofs.FirstMessages.{on_did_as}
 use Rattle.zre_node.proofs.tables.Tables.unlinked.Goals as goal
 
 pub returns-then-not-contains : goal.returns-then-not-contains

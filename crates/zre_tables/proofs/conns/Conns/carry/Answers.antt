@@ -1,6 +1,6 @@
 use Rattle.std.proofs.Common.{Some, refl, arith}
 use Rattle.zre_tables.specs.declared.connection.Connection.{Connection}
-use Rattle.zre_tables.proofs.Changing.{changes}
+use Rattle.zre_tables.proofs.ChangedRows.{changes}
 use Rattle.zre_tables.proofs.IdleConnections.{put_changed}
 use Rattle.zre_tables.proofs.conns.Conns.carry.Goals as goal
 

@@ -1,6 +1,6 @@
 use Rattle.std.proofs.Common.{is_some, ap, ◌∙◌}
 use Rattle.zre_tables.specs.Rows.{row_at}
-use Rattle.zre_tables.proofs.Placed.{placed}
+use Rattle.zre_tables.proofs.RowsInOrder.{placed}
 use Rattle.zre_tables.proofs.conns.Conns.contains.Goals as goal
 
 pub returns : goal.returns

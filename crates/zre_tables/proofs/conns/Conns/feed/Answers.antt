@@ -6,9 +6,9 @@ use Rattle.zre_zmtp.specs.Looks.{Looks, IsPaid, IsPaidOnRefusal}
 use Rattle.zre_mailbox.specs.Conn.{ConnHearing, kept_of}
 use Rattle.zre_tables.specs.Holding.{reader_at}
 use Rattle.zre_tables.specs.declared.connection.Connection.{Connection}
-use Rattle.zre_tables.proofs.Agreeing.{some_is}
-use Rattle.zre_tables.proofs.Changing.{same, put_back, put_same}
-use Rattle.zre_tables.proofs.Placed.{lies}
+use Rattle.zre_tables.proofs.SumsAgreeWithRows.{some_is}
+use Rattle.zre_tables.proofs.ChangedRows.{same, put_back, put_same}
+use Rattle.zre_tables.proofs.RowsInOrder.{lies}
 use Rattle.zre_tables.proofs.IdleConnections.{put_kept}
 use Rattle.zre_tables.proofs.conns.Conns.feed.Goals as goal
 
@@ -34,8 +34,8 @@ returns-in_default-conn-clause-looks g c = λ own o at.
     let no = sym c.in_default-conn.is ∙ ap (option_and_then (λ (k : Connection). k.conn)) (sym it.there_is) ∙ ap (reader_at c.args.conn) c.self.view_is ∙ at in
     absurd cc
 
-pub returns-in_default-conn-clause-silent : goal.returns-in_default-conn-clause-silent
-returns-in_default-conn-clause-silent g c = λ none.
+pub returns-in_default-conn-clause-no_reader : goal.returns-in_default-conn-clause-no_reader
+returns-in_default-conn-clause-no_reader g c = λ none.
     let es = c.self.inside.rows.all.items in
     let row = c.index_mut.result.now in
     let it = lies es c.args.conn c.in-Some.at row c.self.invariant.0 c.in-Some.ensures c.index_mut.ensures.value in
@@ -66,8 +66,8 @@ returns-clause-looks g c = λ own o at.
     let here = some_is _ _ (sym c.in-Some-conn.is ∙ ap (option_and_then (λ (k : Connection). k.conn)) (sym it.there_is) ∙ ap (reader_at c.args.conn) c.self.view_is ∙ at) in
     looks_as c.read.result _ _ _ _ _ _ _ (ap kept_of here) (IfOk-weaker c.read.result _ _ (λ fault a. ap kept_of a.0) (c.read.ensures.heard own o here)) (c.read.ensures.looks own o here)
 
-pub returns-clause-silent : goal.returns-clause-silent
-returns-clause-silent g c = λ none.
+pub returns-clause-no_reader : goal.returns-clause-no_reader
+returns-clause-no_reader g c = λ none.
     let es = c.self.inside.rows.all.items in
     let row = c.index_mut.result.now in
     let it = lies es c.args.conn c.in-Some.at row c.self.invariant.0 c.in-Some.ensures c.index_mut.ensures.value in

@@ -2,7 +2,7 @@ use Rattle.std.proofs.Common.{ℕ, sum_by, drop}
 use Rattle.std.specs.List.{AllByRecursion}
 use Rattle.zre_tables.specs.declared.connection.Connection.{Connection}
 use Rattle.zre_tables.specs.Holding.{conn_row_octets, IsReading}
-use Rattle.zre_tables.proofs.Adding.{AddUp}
+use Rattle.zre_tables.proofs.SumsOverRows.{AddUp}
 use Rattle.zre_tables.proofs.conns.Conns.octets.Given as goal
 
 -- those of the rows that are left make up the rest

@@ -6,10 +6,10 @@ use Rattle.zre_zmtp.specs.Looks.{Looks, IsPaid, IsPaidOnRefusal}
 use Rattle.zre_mailbox.specs.Conn.{ConnHearing, kept_of}
 use Rattle.zre_tables.specs.Holding.{reader_at}
 use Rattle.zre_tables.specs.declared.connection.Connection.{Connection}
-use Rattle.zre_tables.proofs.Agreeing.{some_is}
-use Rattle.zre_tables.proofs.Changing.{same, put_back, put_same}
-use Rattle.zre_tables.proofs.Lendings.{row_takes, taken_looks}
-use Rattle.zre_tables.proofs.Placed.{lies}
+use Rattle.zre_tables.proofs.SumsAgreeWithRows.{some_is}
+use Rattle.zre_tables.proofs.ChangedRows.{same, put_back, put_same}
+use Rattle.zre_tables.proofs.LentPieces.{row_takes, taken_looks}
+use Rattle.zre_tables.proofs.RowsInOrder.{lies}
 use Rattle.zre_tables.proofs.IdleConnections.{put_kept}
 use Rattle.zre_tables.proofs.conns.Conns.take.Goals as goal
 
@@ -29,8 +29,8 @@ returns-in_default-conn-clause-other g c = λ e.
     let it = lies es c.args.conn c.in-Some.at row c.self.invariant.0 c.in-Some.ensures c.index_mut.ensures.value in
     (put_same c.args.conn es c.args.self.now c.self.view_is row.1 (sym it.there_is) row.1 _ (it.set row.1) refl, refl)
 
-pub returns-in_default-conn-clause-silent : goal.returns-in_default-conn-clause-silent
-returns-in_default-conn-clause-silent g c = λ none.
+pub returns-in_default-conn-clause-no_reader : goal.returns-in_default-conn-clause-no_reader
+returns-in_default-conn-clause-no_reader g c = λ none.
     let es = c.self.inside.rows.all.items in
     let row = c.index_mut.result.now in
     let it = lies es c.args.conn c.in-Some.at row c.self.invariant.0 c.in-Some.ensures c.index_mut.ensures.value in
@@ -69,8 +69,8 @@ returns-clause-looks g c = λ own o at taken.
     let here = some_is _ _ (sym c.in-Some-conn.is ∙ ap (option_and_then (λ (k : Connection). k.conn)) (sym it.there_is) ∙ ap (reader_at c.args.conn) c.self.view_is ∙ at) in
     taken_looks c.lend.result own o c.args.bytes.now _ c.lend.new.conn _ _ here (c.lend.ensures.taken own o here) taken (c.lend.ensures.looks own o here taken)
 
-pub returns-clause-silent : goal.returns-clause-silent
-returns-clause-silent g c = λ none.
+pub returns-clause-no_reader : goal.returns-clause-no_reader
+returns-clause-no_reader g c = λ none.
     let es = c.self.inside.rows.all.items in
     let row = c.index_mut.result.now in
     let it = lies es c.args.conn c.in-Some.at row c.self.invariant.0 c.in-Some.ensures c.index_mut.ensures.value in

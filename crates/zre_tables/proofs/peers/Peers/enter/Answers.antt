@@ -1,8 +1,8 @@
 use Rattle.std.proofs.Common.{Some, ap, sym, ◌∙◌}
 use Rattle.zre_tables.specs.declared.peer.Peer.{Peer}
-use Rattle.zre_tables.proofs.Changing.{put_back, same, there}
-use Rattle.zre_tables.proofs.Placed.{lies}
-use Rattle.zre_tables.proofs.Relinking.{renewed}
+use Rattle.zre_tables.proofs.ChangedRows.{put_back, same, there}
+use Rattle.zre_tables.proofs.RowsInOrder.{lies}
+use Rattle.zre_tables.proofs.LentRows.{renewed}
 use Rattle.zre_tables.proofs.peers.Peers.enter.Goals as goal
 
 pub invariant_of-self : goal.invariant_of-self

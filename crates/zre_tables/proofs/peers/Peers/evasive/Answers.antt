@@ -7,7 +7,7 @@ use Rattle.std.specs.Prelude.{◌&&◌, not, is_some}
 use Rattle.zre_tables.specs.declared.peer.Peer.{Peer}
 use Rattle.zre_tables.specs.Rows.{numbers_of, row_at}
 use Rattle.zre_tables.specs.Searches.{row_silent, row_evasive}
-use Rattle.zre_tables.proofs.Listing.{same_numbers}
+use Rattle.zre_tables.proofs.ListedRows.{same_numbers}
 use Rattle.zre_tables.proofs.peers.Peers.evasive.Goals as goal
 
 pub returns-then-not-are_many-clause-found : goal.returns-then-not-are_many-clause-found

@@ -4,8 +4,8 @@ use Rattle.zre_timers.specs.Moments.{Moments}
 use Rattle.zre_tables.specs.Rows.{row_at}
 use Rattle.zre_tables.specs.declared.peer.Peer.{Peer}
 use Rattle.zre_tables.specs.Agreement.{Agree}
-use Rattle.zre_tables.proofs.Agreeing.{insert_agrees, taken_back}
-use Rattle.zre_tables.proofs.Placed.{at_come}
+use Rattle.zre_tables.proofs.SumsAgreeWithRows.{insert_agrees, taken_back}
+use Rattle.zre_tables.proofs.RowsInOrder.{at_come}
 use Rattle.zre_tables.proofs.peers.Peers.insert.Goals as goal
 
 pub invariant_of-self-in-Ok : goal.invariant_of-self-in-Ok

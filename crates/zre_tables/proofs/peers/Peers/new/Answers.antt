@@ -1,4 +1,4 @@
-use Rattle.zre_tables.proofs.Agreeing.{none_agree}
+use Rattle.zre_tables.proofs.SumsAgreeWithRows.{none_agree}
 use Rattle.zre_tables.proofs.peers.Peers.new.Goals as goal
 
 pub invariant_of-result : goal.invariant_of-result

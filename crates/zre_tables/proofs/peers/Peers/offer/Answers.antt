@@ -5,7 +5,7 @@ use Rattle.zre_outside.specs.declared.act.Act.{Act}
 use Rattle.zre_values.specs.Keys.{IsRisingListOf}
 use Rattle.zre_tables.specs.declared.peer.Peer.{Peer}
 use Rattle.zre_tables.specs.Searches.{offered_among}
-use Rattle.zre_tables.proofs.Offering.{offers_by_links}
+use Rattle.zre_tables.proofs.OffersByLinks.{offers_by_links}
 use Rattle.zre_tables.proofs.peers.Peers.offer.Goals as goal
 
 pub offer_rising-requires-clause-rising : goal.offer_rising-requires-clause-rising

@@ -1,10 +1,10 @@
 use Rattle.std.proofs.Common.{Result, Ok, Err, OnOk, IfErr, sym, subst}
 use Rattle.zre_msg.specs.declared.message.Body.TheVariants.{Ping}
-use Rattle.zre_tables.proofs.Changing.{same, there}
+use Rattle.zre_tables.proofs.ChangedRows.{same, there}
 use Rattle.zre_tables.specs.Probing.{IsTold}
 use Rattle.zre_tables.specs.declared.peer.Peer.{Peer}
-use Rattle.zre_tables.proofs.Placed.{lies}
-use Rattle.zre_tables.proofs.Relinking.{put_or_refused, relinked_agrees}
+use Rattle.zre_tables.proofs.RowsInOrder.{lies}
+use Rattle.zre_tables.proofs.LentRows.{put_or_refused, relinked_agrees}
 use Rattle.zre_tables.proofs.peers.Peers.probe.Goals as goal
 
 on_any_ok : {A E P : Type 0} (r : Result A E) → P → OnOk r P

@@ -1,5 +1,5 @@
-use Rattle.zre_tables.proofs.Placed.{lies}
-use Rattle.zre_tables.proofs.Relinking.{put_or_refused, relinked_agrees}
+use Rattle.zre_tables.proofs.RowsInOrder.{lies}
+use Rattle.zre_tables.proofs.LentRows.{put_or_refused, relinked_agrees}
 use Rattle.zre_tables.proofs.peers.Peers.push.Goals as goal
 
 pub returns : goal.returns

@@ -1,6 +1,6 @@
 use Rattle.zre_msg.specs.declared.message.Body.TheVariants.{Shout}
-use Rattle.zre_tables.proofs.Placed.{lies}
-use Rattle.zre_tables.proofs.Relinking.{put_or_refused, relinked_agrees}
+use Rattle.zre_tables.proofs.RowsInOrder.{lies}
+use Rattle.zre_tables.proofs.LentRows.{put_or_refused, relinked_agrees}
 use Rattle.zre_tables.proofs.peers.Peers.push_shout.Goals as goal
 
 pub returns : goal.returns

@@ -1,7 +1,7 @@
 use Rattle.std.proofs.Common.{ap, ◌∙◌}
 use Rattle.zre_tables.specs.Rows.{row_at}
-use Rattle.zre_tables.proofs.Agreeing.{remove_agrees}
-use Rattle.zre_tables.proofs.Placed.{at_gone}
+use Rattle.zre_tables.proofs.SumsAgreeWithRows.{remove_agrees}
+use Rattle.zre_tables.proofs.RowsInOrder.{at_gone}
 use Rattle.zre_tables.proofs.peers.Peers.remove.Goals as goal
 
 pub invariant_of-self : goal.invariant_of-self

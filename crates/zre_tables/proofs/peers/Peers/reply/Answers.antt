@@ -2,9 +2,9 @@ use Rattle.std.proofs.Common.{true, ap, ◌∙◌, sym}
 use Rattle.std.proofs.lemmas.Result.{IfOk-weaker}
 use Rattle.zre_link.specs.Link.{link_after, link_answering}
 use Rattle.zre_tables.specs.declared.peer.Peer.{Peer}
-use Rattle.zre_tables.proofs.Changing.{there, same, paid_as}
-use Rattle.zre_tables.proofs.Placed.{lies}
-use Rattle.zre_tables.proofs.Relinking.{relinked_agrees, relinked, still_linked, its_link}
+use Rattle.zre_tables.proofs.ChangedRows.{there, same, paid_as}
+use Rattle.zre_tables.proofs.RowsInOrder.{lies}
+use Rattle.zre_tables.proofs.LentRows.{relinked_agrees, relinked, still_linked, its_link}
 use Rattle.zre_tables.proofs.peers.Peers.reply.Goals as goal
 
 pub returns-clause-standing : goal.returns-clause-standing

@@ -5,7 +5,7 @@ use Rattle.std.specs.List.Sorted.{IsStrictlyIncreasing}
 use Rattle.zre_tables.specs.declared.peer.Peer.{Peer}
 use Rattle.zre_tables.specs.Rows.{numbers_of, row_at}
 use Rattle.zre_tables.specs.Searches.{row_silent}
-use Rattle.zre_tables.proofs.Listing.{same_numbers}
+use Rattle.zre_tables.proofs.ListedRows.{same_numbers}
 use Rattle.zre_tables.proofs.peers.Peers.silent.Goals as goal
 
 pub returns-clause-found : goal.returns-clause-found

@@ -3,10 +3,10 @@ use Rattle.zre_values.proofs.Answered.{on_ok}
 use Rattle.zre_tables.specs.Runs.{HasRun}
 use Rattle.zre_tables.specs.declared.peer.Peer.{Peer}
 use Rattle.zre_tables.specs.declared.peer.CarriedRun.{CarriedRun}
-use Rattle.zre_tables.proofs.Carrying.{of_err}
-use Rattle.zre_tables.proofs.Changing.{there}
-use Rattle.zre_tables.proofs.Placed.{lies}
-use Rattle.zre_tables.proofs.Relinking.{renewed, reran}
+use Rattle.zre_tables.proofs.RunsOfRows.{of_err}
+use Rattle.zre_tables.proofs.ChangedRows.{there}
+use Rattle.zre_tables.proofs.RowsInOrder.{lies}
+use Rattle.zre_tables.proofs.LentRows.{renewed, reran}
 use Rattle.zre_tables.proofs.peers.Peers.take.Goals as goal
 
 pub invariant_of-self : goal.invariant_of-self

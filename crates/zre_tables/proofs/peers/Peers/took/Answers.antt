@@ -1,7 +1,7 @@
 use Rattle.std.proofs.Common.{sym}
-use Rattle.zre_tables.proofs.Changing.{there}
-use Rattle.zre_tables.proofs.Placed.{lies}
-use Rattle.zre_tables.proofs.Relinking.{relinked, relinked_agrees}
+use Rattle.zre_tables.proofs.ChangedRows.{there}
+use Rattle.zre_tables.proofs.RowsInOrder.{lies}
+use Rattle.zre_tables.proofs.LentRows.{relinked, relinked_agrees}
 use Rattle.zre_tables.proofs.peers.Peers.took.Goals as goal
 
 pub returns-clause-found : goal.returns-clause-found

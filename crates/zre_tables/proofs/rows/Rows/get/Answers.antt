@@ -1,5 +1,5 @@
 use Rattle.std.proofs.Common.{sym}
-use Rattle.zre_tables.proofs.Placed.{lies}
+use Rattle.zre_tables.proofs.RowsInOrder.{lies}
 use Rattle.zre_tables.proofs.rows.Rows.get.Goals as goal
 
 pub returns : goal.returns

@@ -1,5 +1,5 @@
 use Rattle.std.proofs.Common.{◌∙◌}
-use Rattle.zre_tables.proofs.Placed.{lies, replaced, rising_with, rising_set}
+use Rattle.zre_tables.proofs.RowsInOrder.{lies, replaced, rising_with, rising_set}
 use Rattle.zre_tables.proofs.rows.Rows.insert.Goals as goal
 
 pub returns-in-Ok-clause-ok : goal.returns-in-Ok-clause-ok

@@ -1,4 +1,4 @@
-use Rattle.zre_tables.proofs.Placed.{rising_none}
+use Rattle.zre_tables.proofs.RowsInOrder.{rising_none}
 use Rattle.zre_tables.proofs.rows.Rows.new.Goals as goal
 
 pub returns-clause-rising : goal.returns-clause-rising

@@ -1,5 +1,5 @@
 use Rattle.std.proofs.Common.{◌-◌, rules}
-use Rattle.zre_tables.proofs.Placed.{hit}
+use Rattle.zre_tables.proofs.RowsInOrder.{hit}
 use Rattle.zre_tables.proofs.rows.Rows.place.Goals as goal
 
 pub returns-then-index-number : goal.returns-then-index-number

@@ -1,6 +1,6 @@
 use Rattle.std.proofs.Common.{arith, sym, ◌∙◌}
 use Rattle.std.proofs.lemmas.Option.{slice_get_within}
-use Rattle.zre_tables.proofs.Placed.{lies, rising_without, without_none}
+use Rattle.zre_tables.proofs.RowsInOrder.{lies, rising_without, without_none}
 use Rattle.zre_tables.proofs.rows.Rows.remove.Goals as goal
 
 pub returns-in_err-at-clause-rows : goal.returns-in_err-at-clause-rows

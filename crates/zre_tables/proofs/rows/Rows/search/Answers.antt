@@ -5,7 +5,7 @@ use Rattle.std.specs.List.{insert, slice_get}
 use Rattle.std.specs.List.Sorted.{IsStrictlySortedBy, IsBinarySearchResult, IsSearchInRange}
 use Rattle.std.specs.Map.{keys_of}
 use Rattle.zre_tables.specs.Rows.{row_at}
-use Rattle.zre_tables.proofs.Placed.{search_ok, search_err, absent, come}
+use Rattle.zre_tables.proofs.RowsInOrder.{search_ok, search_err, absent, come}
 use Rattle.zre_tables.proofs.rows.Rows.search.Goals as goal
 
 is_there : {V : Type 0} (es : List (ℕ × V)) (n : ℕ) (r : Result ℕ ℕ) → IsSearchInRange r (length es) → IsBinarySearchResult (λ (e : ℕ × V). nat_cmp e.0 n) es r

@@ -18,7 +18,7 @@ use Rattle.zre_journal.proofs.NumberedLists.{eqb-comm}
 use Rattle.zre_tables.specs.declared.peer.Peer.{Peer}
 use Rattle.zre_tables.specs.Rows.{passes_at, numbers_of}
 use Rattle.zre_tables.specs.Searches.{offered_among, row_offered}
-use Rattle.zre_tables.proofs.Listing.{rising_numbers, found_more, not_found}
+use Rattle.zre_tables.proofs.ListedRows.{rising_numbers, found_more, not_found}
 
 -- whether a link is among those on which something was put
 abbrev is_pushed : List ℕ → ℕ → Bool

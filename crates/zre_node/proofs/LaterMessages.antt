@@ -30,10 +30,10 @@ use Rattle.zre_tables.specs.Tabled.{Tabled}
 use Rattle.zre_tables.specs.Runs.{HasRun, HadRun, IsTaken}
 use Rattle.zre_node.specs.Stands.{Holds, Nearly, Did, IsPeer, IsBut, IsLeaving, is_ping}
 use Rattle.zre_tables.proofs.Entries.{changed}
-use Rattle.zre_node.proofs.Parting.{its_row, keeps_with, leaves}
+use Rattle.zre_node.proofs.RowsOfKnownPeers.{its_row, keeps_with, leaves}
 use Rattle.zre_journal.specs.Told.{told}
 use Rattle.zre_node.proofs.MarksAfterMarks.{did_by}
-use Rattle.zre_node.proofs.Keeping.{keeps_as}
+use Rattle.zre_node.proofs.UnchangedByMarks.{keeps_as}
 
 -- ---- a peer that is run has told something
 

@@ -13,7 +13,7 @@ use Rattle.zre_link.specs.Link.{Sending, link_after, link_answering}
 use Rattle.zre_link.specs.Text.{Member}
 use Rattle.zre_tables.specs.Rows.{Changes, row_at, with_row}
 use Rattle.zre_tables.specs.declared.peer.Peer.{Peer}
-use Rattle.zre_tables.proofs.Placed.{lies}
+use Rattle.zre_tables.proofs.RowsInOrder.{lies}
 
 -- the rows are seen as `now`; k is the row that was found
 module _ {V : Type 0} (n : ℕ) (inside now : List (ℕ × V)) (view_is : inside ≡ now) (k : V) (found : Some k ≡ row_at n inside) where

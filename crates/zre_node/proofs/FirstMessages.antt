@@ -36,9 +36,9 @@ use Rattle.zre_tables.specs.Tabled.{Tabled}
 use Rattle.zre_tables.specs.Runs.{HasRun}
 use Rattle.zre_node.specs.Stands.{Holds, Did, IsPeer, IsConn, kept_conn}
 use Rattle.zre_tables.proofs.Entries.{changed}
-use Rattle.zre_node.proofs.Opening.{with_conns}
-use Rattle.zre_node.proofs.Parting.{its_row}
-use Rattle.zre_node.proofs.Keeping.{keeps_as}
+use Rattle.zre_node.proofs.ConnectionsComeAndGo.{with_conns}
+use Rattle.zre_node.proofs.RowsOfKnownPeers.{its_row}
+use Rattle.zre_node.proofs.UnchangedByMarks.{keeps_as}
 
 -- ---- a waiting connection has started nothing and was not refused
 

@@ -16,7 +16,7 @@ use Rattle.zre_tables.specs.Tabled.{Tabled}
 use Rattle.zre_tables.specs.Runs.{IsRunning, HadRun, HasRun}
 use Rattle.zre_node.specs.Stands.{Holds, Keeps, Nearly, Parted, IsLeaving, IsBut, IsPeer}
 use Rattle.zre_tables.proofs.Entries.{Row, Is, IsNone, row, removed, retold}
-use Rattle.zre_node.proofs.Keeping.{keeps_as}
+use Rattle.zre_node.proofs.UnchangedByMarks.{keeps_as}
 
 pub keeps_with : (g : Config) (H : List Mark) (t : Tables) → Keeps g H t → (P : List (ℕ × Peer)) → Keeps g H (record t { peers = P })
 keeps_with g H t k P = keeps_as g H _ _ _ k k.proper refl (refl, refl, refl) k.clock_is k.births_is k.last_is k.groups_fit k.own k.conns

@@ -17,7 +17,7 @@ use Rattle.std.specs.declared.cmp.Ordering.{Ordering}
 use Rattle.std.specs.declared.cmp.Ordering.TheVariants.{Less, Equal, Greater}
 use Rattle.zre_journal.proofs.NumberedLists.{eqb-comm}
 use Rattle.zre_tables.specs.Rows.{row_at, with_row, without_row}
-use Rattle.zre_tables.proofs.Entries.{at-eqb}
+use Rattle.zre_tables.proofs.EntriesOfMaps.{at-eqb}
 
 -- what the order of two numbers is
 less : (a b : ℕ) → nat_cmp a b ≡ Less → a < b

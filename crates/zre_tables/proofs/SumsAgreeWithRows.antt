@@ -11,8 +11,8 @@ use Rattle.zre_timers.specs.Moments.{Moments, NoneAfter, moment_of, moment_of-em
 use Rattle.zre_tables.specs.Agreement.{AreHeard, Agree}
 use Rattle.zre_tables.specs.Rows.{row_at, with_row}
 use Rattle.zre_tables.specs.declared.peer.Peer.{Peer}
-use Rattle.zre_tables.proofs.Entries.{at-eqb}
-use Rattle.zre_tables.proofs.Placed.{at_set, rising_set}
+use Rattle.zre_tables.proofs.EntriesOfMaps.{at-eqb}
+use Rattle.zre_tables.proofs.RowsInOrder.{at_set, rising_set}
 
 -- the rows have o at n, and what they had before elsewhere
 abbrev pub PutAt : ℕ → Option Peer → List (ℕ × Peer) → List (ℕ × Peer) → Type 0

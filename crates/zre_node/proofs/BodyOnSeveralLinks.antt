@@ -24,8 +24,8 @@ use Rattle.zre_tables.specs.Rows.{numbers_of}
 use Rattle.zre_tables.specs.Runs.{HasRun}
 use Rattle.zre_node.specs.Stands.{Holds, AreKnown, IsPeer}
 use Rattle.zre_node.proofs.MarksAfterMarks.{still_known}
-use Rattle.zre_node.proofs.Pushing.{Alike, alike_after, same_push}
-use Rattle.zre_node.proofs.Stopping.{link_list, known_from}
+use Rattle.zre_node.proofs.BodyOnOneLink.{Alike, alike_after, same_push}
+use Rattle.zre_node.proofs.StopOfNode.{link_list, known_from}
 use Rattle.zre_tables.proofs.Finding.{numbers_are}
 
 -- ---- each of the peers is known when its turn comes

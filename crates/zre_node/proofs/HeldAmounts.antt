@@ -31,7 +31,7 @@ use Rattle.zre_tables.specs.Holding.{capped, reader_octets, conn_row_octets, IsR
 use Rattle.zre_node.specs.Journal.{StandsIn}
 use Rattle.zre_node.specs.Stands.{IsConn, IsPeer, heard_by}
 use Rattle.zre_tables.specs.Tabled.{Tabled}
-use Rattle.zre_node.proofs.Asking.{rows, its_view}
+use Rattle.zre_node.proofs.RowsAnswerDefinitions.{rows, its_view}
 
 -- ---- the tables of a node that goes on, and of one that rests
 

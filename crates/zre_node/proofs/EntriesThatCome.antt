@@ -27,9 +27,9 @@ use Rattle.zre_tables.specs.Rows.{row_at, with_row}
 use Rattle.zre_tables.specs.Tabled.{Tabled}
 use Rattle.zre_node.specs.Stands.{Holds, IsPeer, IsConn, kept_conn, heard_by, is_quiet}
 use Rattle.zre_tables.proofs.Entries.{changed, retold, retold_of}
-use Rattle.zre_node.proofs.Ending.{conn_row, some_row}
-use Rattle.zre_node.proofs.Faulting.{dead_places}
-use Rattle.zre_node.proofs.Keeping.{keeps_as}
+use Rattle.zre_node.proofs.EndsOfPeers.{conn_row, some_row}
+use Rattle.zre_node.proofs.FaultsOnConnections.{dead_places}
+use Rattle.zre_node.proofs.UnchangedByMarks.{keeps_as}
 
 pub quiet_piece : (c : ℕ) (i : Input) → is_quiet i ≡ true → piece_of c i ≡ []
 quiet_piece c (input.Piece d o) q = absurd cc

@@ -28,9 +28,9 @@ use Rattle.zre_link.specs.Link.{link_after}
 use Rattle.zre_link.specs.Text.{Member}
 use Rattle.zre_values.specs.declared.peer_id.PeerId.{PeerId}
 use Rattle.zre_tables.specs.declared.peer.Peer.{Peer}
-use Rattle.zre_node.proofs.Coming.{quiet_piece, quiet_reply, grown, unread, deaf, hears}
-use Rattle.zre_node.proofs.Linking.{its, link_is}
-use Rattle.zre_node.proofs.Pushing.{row_link}
+use Rattle.zre_node.proofs.EntriesThatCome.{quiet_piece, quiet_reply, grown, unread, deaf, hears}
+use Rattle.zre_node.proofs.EffectsOnLinks.{its, link_is}
+use Rattle.zre_node.proofs.BodyOnOneLink.{row_link}
 use Rattle.zre_node.specs.Brings.{octets_of}
 use Rattle.zre_node.specs.Kinds.{is_piece}
 use Rattle.zre_node.specs.Stands.{Holds, Rests, is_quiet}

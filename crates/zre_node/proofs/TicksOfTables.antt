@@ -48,10 +48,10 @@ use Rattle.zre_tables.specs.Runs.{HasRun}
 use Rattle.zre_node.specs.Stands.{Holds, Did, IsPeer, IsConn, AreKnown, is_quiet}
 use Rattle.zre_tables.proofs.Finding.{numbers_are}
 use Rattle.zre_node.proofs.MarksAfterMarks.{did_as, did_by, did_then}
-use Rattle.zre_node.proofs.Opening.{with_conns}
-use Rattle.zre_node.proofs.Parting.{its_row, shows}
-use Rattle.zre_node.proofs.Pushing.{Alike, alike_after}
-use Rattle.zre_node.proofs.Stopping.{link_list, map-map, apart_links, known_from}
+use Rattle.zre_node.proofs.ConnectionsComeAndGo.{with_conns}
+use Rattle.zre_node.proofs.RowsOfKnownPeers.{its_row, shows}
+use Rattle.zre_node.proofs.BodyOnOneLink.{Alike, alike_after}
+use Rattle.zre_node.proofs.StopOfNode.{link_list, map-map, apart_links, known_from}
 
 -- ---- which rows pass
 

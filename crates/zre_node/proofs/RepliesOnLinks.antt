@@ -31,12 +31,12 @@ use Rattle.zre_node.specs.Links.{pongs, IsReplied}
 use Rattle.zre_tables.specs.Rows.{with_row}
 use Rattle.zre_tables.specs.Tabled.{Tabled}
 use Rattle.zre_node.specs.Stands.{Holds, Keeps, Did, IsPeer, IsKept, IsConn, link_of_life}
-use Rattle.zre_node.proofs.Coming.{other_conn, no_replies}
+use Rattle.zre_node.proofs.EntriesThatCome.{other_conn, no_replies}
 use Rattle.zre_tables.proofs.Entries.{Agree, retold, retold_of}
-use Rattle.zre_node.proofs.Linking.{key, its, link_is, its_known, relinked}
+use Rattle.zre_node.proofs.EffectsOnLinks.{key, its, link_is, its_known, relinked}
 use Rattle.zre_node.proofs.MarksAfterMarks.{or-nil}
-use Rattle.zre_node.proofs.Pushing.{row_link}
-use Rattle.zre_node.proofs.Keeping.{keeps_as}
+use Rattle.zre_node.proofs.BodyOnOneLink.{row_link}
+use Rattle.zre_node.proofs.UnchangedByMarks.{keeps_as}
 
 -- ---- PONGs, one after another
 

@@ -22,8 +22,8 @@ use Rattle.zre_tables.specs.Tabled.{Tabled}
 use Rattle.zre_node.specs.Stands.{Holds, Did, IsPeer}
 use Rattle.std.proofs.lemmas.List.Folds.{list_any-append}
 use Rattle.zre_tables.proofs.Entries.{inserted, changed}
-use Rattle.zre_node.proofs.Parting.{its_row}
-use Rattle.zre_node.proofs.Keeping.{keeps_as}
+use Rattle.zre_node.proofs.RowsOfKnownPeers.{its_row}
+use Rattle.zre_node.proofs.UnchangedByMarks.{keeps_as}
 
 module _ (g : Config) (H : List Mark) (t : Tables) (h : Holds g H t) (p : PeerId) (e : Endpoint) where
   -- the others are as before

@@ -22,7 +22,7 @@ use Rattle.zre_node.specs.declared.tables.Tables.{Tables}
 use Rattle.zre_tables.specs.Tabled.{Tabled}
 use Rattle.zre_node.specs.Stands.{Holds, Keeps, IsPeer, IsConn, kept_conn, is_above, RunNone}
 use Rattle.zre_tables.proofs.Entries.{inserted, removed, as_many}
-use Rattle.zre_node.proofs.Keeping.{keeps_as}
+use Rattle.zre_node.proofs.UnchangedByMarks.{keeps_as}
 
 pub open_count : (g : Config) (H : List Mark) (t : Tables) → Keeps g H t → length t.conns ≡ length (open_ones H)
 open_count g H t k = as_many (λ (c : ℕ). c) (IsConn g H) (open_ones H) t.conns k.conns

@@ -14,7 +14,7 @@ use Rattle.std.specs.declared.cmp.Ordering.TheVariants.{Less}
 use Rattle.zre_journal.proofs.NumberedLists.{eqb-comm}
 use Rattle.zre_values.specs.Keys.{IsRisingListOf, same_rising_list}
 use Rattle.zre_tables.specs.Rows.{row_at, passes_at, numbers_of}
-use Rattle.zre_tables.proofs.Entries.{at-eqb}
+use Rattle.zre_tables.proofs.EntriesOfMaps.{at-eqb}
 
 same_filter : (p q : ℕ → Bool) (xs : List ℕ) → AllByRecursion (λ x. p x ≡ q x) xs → filter p xs ≡ filter q xs
 same_filter p q [] a = refl

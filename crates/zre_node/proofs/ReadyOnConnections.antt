@@ -14,7 +14,7 @@ use Rattle.zre_tables.specs.Tabled.{Tabled}
 use Rattle.zre_tables.specs.Searches.{other_among}
 use Rattle.zre_node.specs.Stands.{Holds, IsConn, kept_conn, IsOpenIfAny}
 use Rattle.zre_tables.proofs.Entries.{changed}
-use Rattle.zre_node.proofs.Opening.{with_conns}
+use Rattle.zre_node.proofs.ConnectionsComeAndGo.{with_conns}
 
 -- ---- the search for another
 

@@ -13,9 +13,9 @@ use Rattle.zre_timers.specs.Moments.{Moments}
 use Rattle.zre_tables.specs.Agreement.{Agree}
 use Rattle.zre_tables.specs.Rows.{row_at, with_row}
 use Rattle.zre_tables.specs.declared.peer.Peer.{Peer}
-use Rattle.zre_tables.proofs.Agreeing.{still_agrees, renewed_agrees}
-use Rattle.zre_tables.proofs.Placed.{Lies}
-use Rattle.zre_tables.proofs.Changing.{same, there, put_back, put_same, relink, retaken}
+use Rattle.zre_tables.proofs.SumsAgreeWithRows.{still_agrees, renewed_agrees}
+use Rattle.zre_tables.proofs.RowsInOrder.{Lies}
+use Rattle.zre_tables.proofs.ChangedRows.{same, there, put_back, put_same, relink, retaken}
 
 -- row lies under n at i among the rows es: it is lent, and comes back with w as its peer
 module _ (n i : ℕ) (es : List (ℕ × Peer)) (row : ℕ × Peer) (it : Lies es n i row) where

@@ -20,7 +20,7 @@ use Rattle.zre_node.specs.Journal.{StandsIn}
 use Rattle.zre_tables.specs.Tabled.{Tabled}
 use Rattle.zre_tables.specs.Runs.{HasRun}
 use Rattle.zre_node.specs.Stands.{IsPeer, link_of_life}
-use Rattle.zre_node.proofs.Parting.{its_row, no_row}
+use Rattle.zre_node.proofs.RowsOfKnownPeers.{its_row, no_row}
 
 -- the rows are those of the known peers
 pub rows : (g : Config) (H : List Mark) (t : Tables) → StandsIn g H t → Tabled (λ (v : Life). v.link) (IsPeer g H) (lives H) t.peers

@@ -21,8 +21,8 @@ use Rattle.zre_node.specs.declared.effects.Effects.{Effects}
 use Rattle.zre_tables.specs.Tabled.{Tabled}
 use Rattle.zre_node.specs.Stands.{Holds, Did, IsPeer, link_of_life}
 use Rattle.zre_tables.proofs.Entries.{changed}
-use Rattle.zre_node.proofs.Parting.{its_row, keeps_with}
-use Rattle.zre_node.proofs.Keeping.{keeps_as}
+use Rattle.zre_node.proofs.RowsOfKnownPeers.{its_row, keeps_with}
+use Rattle.zre_node.proofs.UnchangedByMarks.{keeps_as}
 
 module _ (g : Config) (K : List Mark) (t : Tables) (h : Holds g K t) (l : ℕ) (k : Peer) (was : Some k ≡ lookup (is_at (nat_cmp l)) t.peers) where
   its : (v : Life) × (life l K ≡ Some v) × IsPeer g K v k

@@ -11,7 +11,7 @@ use Rattle.zre_link.specs.Link.{has_front}
 use Rattle.zre_tables.specs.declared.peer.Peer.{Peer}
 use Rattle.zre_tables.specs.Rows.{row_at}
 use Rattle.zre_tables.specs.Searches.{begins_with, offered_among, since_link}
-use Rattle.zre_tables.proofs.Entries.{at-eqb}
+use Rattle.zre_tables.proofs.EntriesOfMaps.{at-eqb}
 
 -- a link that isn't below another is found among some links where it is found among those since that one
 found_since : (n k : ℕ) (ls : List ℕ) → n ≤ k → list_any (eqb k) ls ≡ list_any (eqb k) (since_link n ls)

@@ -30,9 +30,9 @@ use Rattle.zre_tables.specs.Tabled.{Tabled}
 use Rattle.zre_node.specs.Stands.{Holds, Keeps, Did, IsPeer, IsConn, is_quiet, link_of_life}
 use Rattle.zre_tables.proofs.Entries.{Agree, changed}
 use Rattle.zre_node.proofs.MarksAfterMarks.{or-nil, idle_did, silent_did}
-use Rattle.zre_node.proofs.Parting.{PeerRow, Found, Missing, peer_row, its_row}
-use Rattle.zre_node.proofs.Pushing.{row_link, written_back}
-use Rattle.zre_node.proofs.Keeping.{keeps_as}
+use Rattle.zre_node.proofs.RowsOfKnownPeers.{PeerRow, Found, Missing, peer_row, its_row}
+use Rattle.zre_node.proofs.BodyOnOneLink.{row_link, written_back}
+use Rattle.zre_node.proofs.UnchangedByMarks.{keeps_as}
 
 abbrev pub key : Life → ℕ
 key v = v.link

@@ -6,9 +6,9 @@ use Rattle.std.specs.Map.{keys_of}
 use Rattle.zre_tables.specs.declared.peer.Peer.{Peer}
 use Rattle.zre_tables.specs.Rows.{row_at}
 use Rattle.zre_tables.specs.Searches.{row_silent}
-use Rattle.zre_tables.proofs.Listing.{all_keys, among_keys}
-use Rattle.zre_tables.proofs.Agreeing.{rests, idle_by}
-use Rattle.zre_tables.proofs.peers.Peers.rested.Goals as goal
+use Rattle.zre_tables.proofs.ListedRows.{all_keys, among_keys}
+use Rattle.zre_tables.proofs.SumsAgreeWithRows.{rests, idle_by}
+use Rattle.zre_tables.proofs.peers.Peers.due_links.Goals as goal
 
 pub returns-then-self-clause-rising : goal.returns-then-self-clause-rising
 returns-then-self-clause-rising c =

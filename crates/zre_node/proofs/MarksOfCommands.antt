@@ -30,14 +30,14 @@ use Rattle.zre_node.specs.declared.tables.Tables.{Tables}
 use Rattle.zre_node.specs.declared.effects.Effects.{Effects}
 use Rattle.zre_tables.specs.Searches.{link_among}
 use Rattle.zre_node.specs.Stands.{Holds, Did, IsPeer, is_quiet}
-use Rattle.zre_node.proofs.Broadcasting.{pushed_after}
-use Rattle.zre_node.proofs.Datagram.{link_found, its_life, no_life}
+use Rattle.zre_node.proofs.BodyOnSeveralLinks.{pushed_after}
+use Rattle.zre_node.proofs.MarksOfDatagrams.{link_found, its_life, no_life}
 use Rattle.zre_node.proofs.MarksAfterMarks.{did_as, did_then, silent_did}
-use Rattle.zre_node.proofs.Opening.{with_conns}
-use Rattle.zre_node.proofs.Parting.{its_row, no_row}
-use Rattle.zre_node.proofs.Starting.{its_own_life}
-use Rattle.zre_node.proofs.Ticking.{enters}
-use Rattle.zre_node.proofs.Keeping.{keeps_as}
+use Rattle.zre_node.proofs.ConnectionsComeAndGo.{with_conns}
+use Rattle.zre_node.proofs.RowsOfKnownPeers.{its_row, no_row}
+use Rattle.zre_node.proofs.FirstMessages.{its_own_life}
+use Rattle.zre_node.proofs.TicksOfTables.{enters}
+use Rattle.zre_node.proofs.UnchangedByMarks.{keeps_as}
 
 -- ---- a refusal
 

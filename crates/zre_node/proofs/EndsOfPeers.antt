@@ -29,7 +29,7 @@ use Rattle.zre_tables.specs.Runs.{HadRun}
 use Rattle.zre_node.specs.Stands.{Holds, Keeps, Parted, Did, IsConn, kept_conn, heard_by}
 use Rattle.zre_tables.proofs.Entries.{Row, Is, IsNone, row, changed, retold}
 use Rattle.zre_node.proofs.MarksAfterMarks.{or-nil}
-use Rattle.zre_node.proofs.Keeping.{keeps_as}
+use Rattle.zre_node.proofs.UnchangedByMarks.{keeps_as}
 
 -- ---- connections, by number
 
