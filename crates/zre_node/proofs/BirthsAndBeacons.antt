@@ -13,7 +13,7 @@ use Rattle.zre_journal.specs.Chronicle.{Mark, HearsBeacon}
 use Rattle.zre_journal.specs.Heard.{clock}
 use Rattle.zre_journal.specs.Peers.{Life, lives, births, counted}
 use Rattle.zre_journal.specs.Pushes.{hello, birth}
-use Rattle.zre_journal.proofs.ProperKept.{born, newborn, born-proper, HearsBeacon-proper}
+use Rattle.zre_journal.proofs.ProperAfterMarks.{born, newborn, born-proper, HearsBeacon-proper}
 use Rattle.zre_journal.proofs.NumberedLists.{eqb-comm, found_passes}
 use Rattle.zre_tables.specs.declared.peer.Peer.{Peer}
 use Rattle.zre_node.specs.declared.tables.Tables.{Tables}
@@ -21,7 +21,7 @@ use Rattle.zre_node.specs.declared.effects.Effects.{Effects}
 use Rattle.zre_tables.specs.Tabled.{Tabled}
 use Rattle.zre_node.specs.Stands.{Holds, Did, IsPeer}
 use Rattle.std.proofs.lemmas.List.Folds.{list_any-append}
-use Rattle.zre_tables.proofs.Entries.{inserted, changed}
+use Rattle.zre_tables.proofs.EntriesOfMaps.{inserted, changed}
 use Rattle.zre_node.proofs.RowsOfKnownPeers.{its_row}
 use Rattle.zre_node.proofs.UnchangedByMarks.{keeps_as}
 

@@ -13,14 +13,14 @@ use Rattle.zre_journal.specs.Chronicle.{Mark, Puts, Sends, Ends, after, followed
 use Rattle.zre_journal.specs.Peers.{Life, lives, life}
 use Rattle.zre_journal.specs.Links.{line, put_on, is_linked, replies, taken, unsent}
 use Rattle.zre_journal.specs.Pushes.{push}
-use Rattle.zre_journal.proofs.ProperKept.{known_lives, Puts-proper}
+use Rattle.zre_journal.proofs.ProperAfterMarks.{known_lives, Puts-proper}
 use Rattle.zre_journal.proofs.NumberedLists.{eqb-comm, found_passes}
 use Rattle.zre_tables.specs.declared.peer.Peer.{Peer}
 use Rattle.zre_node.specs.declared.tables.Tables.{Tables}
 use Rattle.zre_node.specs.declared.effects.Effects.{Effects}
 use Rattle.zre_tables.specs.Tabled.{Tabled}
 use Rattle.zre_node.specs.Stands.{Holds, Did, IsPeer, link_of_life}
-use Rattle.zre_tables.proofs.Entries.{changed}
+use Rattle.zre_tables.proofs.EntriesOfMaps.{changed}
 use Rattle.zre_node.proofs.RowsOfKnownPeers.{its_row, keeps_with}
 use Rattle.zre_node.proofs.UnchangedByMarks.{keeps_as}
 

@@ -15,7 +15,7 @@ use Rattle.zre_journal.specs.Links.{line, put_on, taken, unsent}
 use Rattle.zre_journal.specs.Commands.{has_group, is_member}
 use Rattle.zre_journal.specs.Pushes.{push, push_all}
 use Rattle.zre_journal.proofs.JoinedEntries.{after-append}
-use Rattle.zre_journal.proofs.Known.{each_known}
+use Rattle.zre_journal.proofs.KnownPeers.{each_known}
 use Rattle.zre_journal.proofs.NumberedLists.{All-kept, Apart-kept}
 use Rattle.zre_tables.specs.declared.peer.Peer.{Peer}
 use Rattle.zre_node.specs.declared.tables.Tables.{Tables}
@@ -26,7 +26,7 @@ use Rattle.zre_node.specs.Stands.{Holds, AreKnown, IsPeer}
 use Rattle.zre_node.proofs.MarksAfterMarks.{still_known}
 use Rattle.zre_node.proofs.BodyOnOneLink.{Alike, alike_after, same_push}
 use Rattle.zre_node.proofs.StopOfNode.{link_list, known_from}
-use Rattle.zre_tables.proofs.Finding.{numbers_are}
+use Rattle.zre_tables.proofs.RowsThatPass.{numbers_are}
 
 -- ---- each of the peers is known when its turn comes
 

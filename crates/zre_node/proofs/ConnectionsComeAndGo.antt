@@ -16,12 +16,12 @@ use Rattle.zre_journal.specs.Links.{groups, status}
 use Rattle.zre_journal.specs.Proper.{IsProper}
 use Rattle.zre_journal.specs.Happens.{has_stopped}
 use Rattle.zre_journal.specs.Arrivals.{at_opened, at_shut, end_of_run}
-use Rattle.zre_journal.proofs.ProperKept.{Opens-proper, TurnsAway-proper, Closes-proper, IsShut-proper, ClosesAtStop-proper}
+use Rattle.zre_journal.proofs.ProperAfterMarks.{Opens-proper, TurnsAway-proper, Closes-proper, IsShut-proper, ClosesAtStop-proper}
 use Rattle.zre_tables.specs.declared.connection.Connection.{Connection}
 use Rattle.zre_node.specs.declared.tables.Tables.{Tables}
 use Rattle.zre_tables.specs.Tabled.{Tabled}
 use Rattle.zre_node.specs.Stands.{Holds, Keeps, IsPeer, IsConn, kept_conn, is_above, RunNone}
-use Rattle.zre_tables.proofs.Entries.{inserted, removed, as_many}
+use Rattle.zre_tables.proofs.EntriesOfMaps.{inserted, removed, as_many}
 use Rattle.zre_node.proofs.UnchangedByMarks.{keeps_as}
 
 pub open_count : (g : Config) (H : List Mark) (t : Tables) → Keeps g H t → length t.conns ≡ length (open_ones H)

@@ -19,7 +19,7 @@ use Rattle.zre_journal.specs.Peers.{Life, lives, life, births}
 use Rattle.zre_journal.specs.Happens.{has_stopped, at_input}
 use Rattle.zre_journal.specs.LinkEntries.{at_linked, at_reply, at_unlinked, at_took}
 use Rattle.zre_journal.specs.Proper.{IsProper}
-use Rattle.zre_journal.proofs.ProperKept.{known_lives, Links-proper, Sends-proper}
+use Rattle.zre_journal.proofs.ProperAfterMarks.{known_lives, Links-proper, Sends-proper}
 use Rattle.zre_journal.proofs.NumberedLists.{eqb-comm}
 use Rattle.zre_node.specs.declared.effects.Effects.{Effects}
 use Rattle.zre_tables.specs.declared.peer.Peer.{Peer}
@@ -28,7 +28,7 @@ use Rattle.zre_node.specs.Kinds.{is_about_link}
 use Rattle.zre_node.specs.Links.{Notes}
 use Rattle.zre_tables.specs.Tabled.{Tabled}
 use Rattle.zre_node.specs.Stands.{Holds, Keeps, Did, IsPeer, IsConn, is_quiet, link_of_life}
-use Rattle.zre_tables.proofs.Entries.{Agree, changed}
+use Rattle.zre_tables.proofs.EntriesOfMaps.{Agree, changed}
 use Rattle.zre_node.proofs.MarksAfterMarks.{or-nil, idle_did, silent_did}
 use Rattle.zre_node.proofs.RowsOfKnownPeers.{PeerRow, Found, Missing, peer_row, its_row}
 use Rattle.zre_node.proofs.BodyOnOneLink.{row_link, written_back}

@@ -14,7 +14,7 @@ use Rattle.zre_journal.specs.Connections.{runs, open_ones, is_open, has_ended, s
 use Rattle.zre_journal.specs.Peers.{life, births, runner, counted}
 use Rattle.zre_journal.specs.Told.{exit}
 use Rattle.zre_journal.specs.Done.{close_link}
-use Rattle.zre_journal.proofs.ProperKept.{known_lives, run_is, Ends-proper}
+use Rattle.zre_journal.proofs.ProperAfterMarks.{known_lives, run_is, Ends-proper}
 use Rattle.zre_journal.proofs.NumberedLists.{eqb-comm, found_any, none_any, found_passes}
 use Rattle.zre_tables.specs.declared.peer.Peer.{Peer}
 use Rattle.zre_tables.specs.declared.peer.CarriedRun.{CarriedRun}
@@ -27,7 +27,7 @@ use Rattle.zre_node.specs.declared.effects.Effects.{Effects}
 use Rattle.zre_tables.specs.Tabled.{Tabled}
 use Rattle.zre_tables.specs.Runs.{HadRun}
 use Rattle.zre_node.specs.Stands.{Holds, Keeps, Parted, Did, IsConn, kept_conn, heard_by}
-use Rattle.zre_tables.proofs.Entries.{Row, Is, IsNone, row, changed, retold}
+use Rattle.zre_tables.proofs.EntriesOfMaps.{Row, Is, IsNone, row, changed, retold}
 use Rattle.zre_node.proofs.MarksAfterMarks.{or-nil}
 use Rattle.zre_node.proofs.UnchangedByMarks.{keeps_as}
 

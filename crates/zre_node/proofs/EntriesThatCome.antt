@@ -18,7 +18,7 @@ use Rattle.zre_journal.specs.Connections.{open_ones, is_open, is_live, is_ignore
 use Rattle.zre_journal.specs.Peers.{Life, lives}
 use Rattle.zre_journal.specs.Links.{line, is_linked, replies, reply_of, taken}
 use Rattle.zre_journal.specs.Arrivals.{at_places}
-use Rattle.zre_journal.proofs.ProperKept.{Comes-proper}
+use Rattle.zre_journal.proofs.ProperAfterMarks.{Comes-proper}
 use Rattle.zre_journal.proofs.NumberedLists.{eqb-comm, found_passes, any_has}
 use Rattle.zre_tables.specs.declared.connection.Connection.{Connection}
 use Rattle.zre_node.specs.declared.tables.Tables.{Tables}
@@ -26,7 +26,7 @@ use Rattle.zre_tables.specs.Holding.{reader_at}
 use Rattle.zre_tables.specs.Rows.{row_at, with_row}
 use Rattle.zre_tables.specs.Tabled.{Tabled}
 use Rattle.zre_node.specs.Stands.{Holds, IsPeer, IsConn, kept_conn, heard_by, is_quiet}
-use Rattle.zre_tables.proofs.Entries.{changed, retold, retold_of}
+use Rattle.zre_tables.proofs.EntriesOfMaps.{changed, retold, retold_of}
 use Rattle.zre_node.proofs.EndsOfPeers.{conn_row, some_row}
 use Rattle.zre_node.proofs.FaultsOnConnections.{dead_places}
 use Rattle.zre_node.proofs.UnchangedByMarks.{keeps_as}

@@ -26,16 +26,16 @@ use Rattle.zre_journal.specs.Chronicle.{Mark, Starts, Ignores, after, ever}
 use Rattle.zre_journal.specs.Connections.{open_ones, is_open, is_live, is_ignored, was_used, identity, runs, started, refuses, has_ended}
 use Rattle.zre_journal.specs.Peers.{Life, lives, life, life_of, births, runner, counted}
 use Rattle.zre_journal.specs.Proper.{IsProper}
-use Rattle.zre_journal.proofs.ProperKept.{known_lives, newborn, runner_runs, Starts-proper, Ignores-proper}
+use Rattle.zre_journal.proofs.ProperAfterMarks.{known_lives, newborn, runner_runs, Starts-proper, Ignores-proper}
 use Rattle.zre_journal.proofs.NumberedLists.{eqb-comm, found_passes, All-map}
-use Rattle.zre_journal.proofs.Known.{known_of, id_of}
+use Rattle.zre_journal.proofs.KnownPeers.{known_of, id_of}
 use Rattle.zre_tables.specs.declared.connection.Connection.{Connection}
 use Rattle.zre_tables.specs.declared.peer.Peer.{Peer}
 use Rattle.zre_node.specs.declared.tables.Tables.{Tables}
 use Rattle.zre_tables.specs.Tabled.{Tabled}
 use Rattle.zre_tables.specs.Runs.{HasRun}
 use Rattle.zre_node.specs.Stands.{Holds, Did, IsPeer, IsConn, kept_conn}
-use Rattle.zre_tables.proofs.Entries.{changed}
+use Rattle.zre_tables.proofs.EntriesOfMaps.{changed}
 use Rattle.zre_node.proofs.ConnectionsComeAndGo.{with_conns}
 use Rattle.zre_node.proofs.RowsOfKnownPeers.{its_row}
 use Rattle.zre_node.proofs.UnchangedByMarks.{keeps_as}

@@ -7,8 +7,8 @@ use Rattle.zre_zmtp.specs.Stream.{Whole, cut}
 use Rattle.zre_zmtp.specs.declared.fault.ZmtpFault.{ZmtpFault}
 use Rattle.zre_zmtp.specs.declared.want.Want.TheVariants.{Router, Dealer}
 use Rattle.zre_mailbox.specs.Talk.{fault_in}
-use Rattle.zre_mailbox.specs.Conn.{reading, phase_by, conn_after, kept_in, kept_of}
-use Rattle.zre_link.specs.Heard.{reply_fault, heard_after, hearing_by, reading as reply_reading, kept_in as kept_in_replies, kept_of as kept_of_replies}
+use Rattle.zre_mailbox.specs.Conn.{reading, phase_by, conn_after, held_in, held_of}
+use Rattle.zre_link.specs.Heard.{reply_fault, heard_after, hearing_by, reading as reply_reading, held_in as held_in_replies, held_of as held_of_replies}
 use Rattle.zre_link.specs.Link.{Sending}
 use Rattle.zre_link.specs.Text.{text_of}
 use Rattle.zre_values.specs.declared.settings.Settings.{Settings as Config}
@@ -21,7 +21,7 @@ use Rattle.zre_journal.specs.Links.{groups, status, line, links, is_linked, repl
 use Rattle.zre_journal.specs.Peers.{Life, lives, life, is_entered, view}
 use Rattle.zre_journal.specs.Happens.{has_stopped}
 use Rattle.zre_journal.specs.Config.{CanBe}
-use Rattle.zre_journal.proofs.Known.{each_known}
+use Rattle.zre_journal.proofs.KnownPeers.{each_known}
 use Rattle.zre_journal.proofs.NumberedLists.{All-map}
 use Rattle.zre_tables.specs.declared.connection.Connection.{Connection}
 use Rattle.zre_tables.specs.declared.peer.Peer.{Peer}
@@ -78,8 +78,8 @@ module _ (g : Config) (H : List Mark) where
       (subst (λ (k : Connection). IsReading k.conn) (sym t.1) (is_read (is_ignored c H) (bytes c H)), conns_read cs es t.2)
 
   -- what is kept of octets without a fault
-  kept_heard : (o : List ℕ) → fault_in g.id o ≡ None → kept_of (conn_after g.id o) ≡ unfinished (Dealer g.id) o
-  kept_heard o none = ap (λ (f : Option ZmtpFault). kept_in (phase_by f (reading (Dealer g.id) Whole o))) none
+  kept_heard : (o : List ℕ) → fault_in g.id o ≡ None → held_of (conn_after g.id o) ≡ unfinished (Dealer g.id) o
+  kept_heard o none = ap (λ (f : Option ZmtpFault). held_in (phase_by f (reading (Dealer g.id) Whole o))) none
 
   conn_row : (c : ℕ) (k : Connection) → IsConn g H c k → (b : Bool) → is_ignored c H ≡ b → (b ≡ false → fault_in g.id (bytes c H) ≡ None) → conn_row_octets k ≡ cond (not b) (conn_octets g H c) 0
   conn_row c k is true i none = ap conn_row_octets is ∙ ap (λ b. reader_octets (heard_by b g.id (bytes c H))) i
@@ -148,8 +148,8 @@ unfolding cut
 nothing_unfinished = refl
 
 module _ (g : Config) (H : List Mark) where
-  kept_replies : (l : ℕ) → reply_fault (replies l H) ≡ None → kept_of_replies (heard_after (replies l H)) ≡ reply_octets g H l
-  kept_replies l none = ap (λ (f : Option ZmtpFault). kept_in_replies (hearing_by f (reply_reading (replies l H)))) none ∙ by (is_linked l H) refl
+  kept_replies : (l : ℕ) → reply_fault (replies l H) ≡ None → held_of_replies (heard_after (replies l H)) ≡ reply_octets g H l
+  kept_replies l none = ap (λ (f : Option ZmtpFault). held_in_replies (hearing_by f (reply_reading (replies l H)))) none ∙ by (is_linked l H) refl
     where
       by : (b : Bool) → is_linked l H ≡ b → unfinished Router (replies l H) ≡ cond b (unfinished Router (replies l H)) 0
       by true e = refl
@@ -164,7 +164,7 @@ module _ (g : Config) (H : List Mark) where
 
   peer_row : (v : Life) (k : Peer) → IsPeer g H v k → reply_fault (replies v.link H) ≡ None → peer_row_octets k ≡ peer_octets g H v
   peer_row v k i none =
-      let back : kept_of_replies k.link.replies ≡ reply_octets g H v.link = ap (λ (s : Sending). kept_of_replies s.replies) i.link_is ∙ kept_replies v.link none in
+      let back : held_of_replies k.link.replies ≡ reply_octets g H v.link = ap (λ (s : Sending). held_of_replies s.replies) i.link_is ∙ kept_replies v.link none in
       let waits : length k.link.queue ≡ unsent g v.link H = ap (λ (s : Sending). length s.queue) i.link_is ∙ length-drop (taken v.link H) (text_of g.id (line v.link H)) in
       let told : shown_octets (view_of_row k) ≡ cond (is_entered H v) (view_octets (view v.link H)) 0 = ap shown_octets (its_view g H v k i) ∙ shown v in
       ap (λ n. n + length k.link.queue + shown_octets (view_of_row k)) back ∙ ap (λ n. reply_octets g H v.link + n + shown_octets (view_of_row k)) waits ∙ ap (λ n. reply_octets g H v.link + unsent g v.link H + n) told

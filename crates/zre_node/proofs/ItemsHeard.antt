@@ -5,7 +5,7 @@ use Rattle.std.proofs.lemmas.List.{map-append}
 use Rattle.zre_zmtp.specs.declared.item.Item.{Item}
 use Rattle.zre_mailbox.specs.declared.arrival.Arrival.{Arrival}
 use Rattle.zre_mailbox.specs.Talk.{Said, Arrived, arrival_of, arrivals_in}
-use Rattle.zre_mailbox.proofs.Hearing.{arrives_next}
+use Rattle.zre_mailbox.proofs.ConnAfterOctets.{arrives_next}
 use Rattle.zre_values.specs.declared.settings.Settings.{Settings as Config}
 use Rattle.zre_journal.specs.Chronicle.{Mark, after, in_turn}
 use Rattle.zre_journal.specs.Connections.{is_live}

@@ -21,7 +21,7 @@ use Rattle.zre_journal.specs.Connections.{runs}
 use Rattle.zre_journal.specs.Peers.{Life, lives, life, runner, counted}
 use Rattle.zre_journal.specs.Arrivals.{at_later, answer_to}
 use Rattle.zre_journal.specs.Pushes.{push}
-use Rattle.zre_journal.proofs.ProperKept.{run_is, Counts-proper, run_known}
+use Rattle.zre_journal.proofs.ProperAfterMarks.{run_is, Counts-proper, run_known}
 use Rattle.zre_journal.proofs.NumberedLists.{eqb-comm, found_passes}
 use Rattle.zre_tables.specs.declared.peer.Peer.{Peer}
 use Rattle.zre_node.specs.declared.tables.Tables.{Tables}
@@ -29,7 +29,7 @@ use Rattle.zre_node.specs.declared.effects.Effects.{Effects}
 use Rattle.zre_tables.specs.Tabled.{Tabled}
 use Rattle.zre_tables.specs.Runs.{HasRun, HadRun, IsTaken}
 use Rattle.zre_node.specs.Stands.{Holds, Nearly, Did, IsPeer, IsBut, IsLeaving, is_ping}
-use Rattle.zre_tables.proofs.Entries.{changed}
+use Rattle.zre_tables.proofs.EntriesOfMaps.{changed}
 use Rattle.zre_node.proofs.RowsOfKnownPeers.{its_row, keeps_with, leaves}
 use Rattle.zre_journal.specs.Told.{told}
 use Rattle.zre_node.proofs.MarksAfterMarks.{did_by}

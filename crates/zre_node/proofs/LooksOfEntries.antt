@@ -6,8 +6,8 @@ use Rattle.zre_outside.specs.declared.entry.Entry.{Entry}
 use Rattle.zre_outside.specs.declared.entry.Input.{Input}
 use Rattle.zre_outside.specs.declared.entry.Input.TheVariants as input
 use Rattle.zre_zmtp.specs.Looks.{Looks, IsPaid, IsPaidOnRefusal}
-use Rattle.zre_mailbox.specs.Conn.{conn_after, kept_of}
-use Rattle.zre_link.specs.Heard.{heard_after, kept_of as kept_of_replies}
+use Rattle.zre_mailbox.specs.Conn.{conn_after, held_of}
+use Rattle.zre_link.specs.Heard.{heard_after, held_of as held_of_replies}
 use Rattle.zre_values.specs.declared.settings.Settings.{Settings as Config}
 use Rattle.zre_journal.specs.Chronicle.{Mark, Comes, after}
 use Rattle.zre_journal.specs.Heard.{bytes}
@@ -18,9 +18,9 @@ use Rattle.zre_journal.specs.Held.{conn_kept, replies_kept, kept}
 use Rattle.zre_journal.specs.Links.{line, is_linked, replies, taken}
 use Rattle.zre_journal.specs.Peers.{Life, life}
 use Rattle.zre_journal.specs.Proper.{IsProper}
-use Rattle.zre_journal.proofs.ProperKept.{Comes-proper}
+use Rattle.zre_journal.proofs.ProperAfterMarks.{Comes-proper}
 use Rattle.zre_journal.proofs.JoinedEntries.{continues}
-use Rattle.zre_journal.proofs.ReadersKeepLess.{input_lowers, quiet_keeps, piece_moves, piece_lost, piece_part, reply_moves, reply_lost, reply_part}
+use Rattle.zre_journal.proofs.ReadersHoldLess.{input_lowers, quiet_keeps, piece_moves, piece_lost, piece_part, reply_moves, reply_lost, reply_part}
 use Rattle.zre_tables.specs.Holding.{reader_at}
 use Rattle.std.specs.BTreeMap.{is_at}
 use Rattle.std.specs.Map.{lookup}
@@ -104,20 +104,20 @@ module _ (g : Config) (H : List Mark) (t : Tables) (h : Holds g H t) (e : Entry)
   lost_looks r looks gone = no_looks r looks (kept g H) (kept g (Comes e ∷ H)) (length o) (omega (arith, piece_lost g H h.keeps.proper e c o is gone))
 
   pub heard_looks : {A : Type 0} (r : Result A OutOfMemory) (looks looks' : ℕ)
-      → ((own : PeerId) (q : List ℕ) → reader_at c t.conns ≡ Some (conn_after own q) → Looks looks looks' (kept_of (conn_after own q)) (kept_of (conn_after own (q ++ o))) (length o) r)
+      → ((own : PeerId) (q : List ℕ) → reader_at c t.conns ≡ Some (conn_after own q) → Looks looks looks' (held_of (conn_after own q)) (held_of (conn_after own (q ++ o))) (length o) r)
       → (reader_at c t.conns ≡ None → looks' ≡ looks) → Looks looks looks' (kept g H) (kept g (Comes e ∷ H)) (length o) r
   heard_looks {A} r looks looks' live dead = by (is_open c H) refl (is_ignored c H) refl
     where
       by : (b : Bool) → is_open c H ≡ b → (d : Bool) → is_ignored c H ≡ d → Looks looks looks' (kept g H) (kept g (Comes e ∷ H)) (length o) r
       by false z d q = subst (λ l. Looks looks l (kept g H) (kept g (Comes e ∷ H)) (length o) r) (sym (dead (unread g H t h e c o is z))) (lost_looks r looks z)
       by true z true q =
-          let now : conn_kept g (Comes e ∷ H) c ≡ 0 = ap (λ b. cond b 0 (kept_of (conn_after g.id (bytes c (Comes e ∷ H))))) q in
+          let now : conn_kept g (Comes e ∷ H) c ≡ 0 = ap (λ b. cond b 0 (held_of (conn_after g.id (bytes c (Comes e ∷ H))))) q in
           subst (λ l. Looks looks l (kept g H) (kept g (Comes e ∷ H)) (length o) r) (sym (dead (deaf g H t h e c o is z q)))
           (no_looks r looks (kept g H) (kept g (Comes e ∷ H)) (length o) (omega (arith, piece_moves g H h.keeps.proper e c o is z, now)))
       by true z false q =
-          let was : conn_kept g H c ≡ kept_of (conn_after g.id (bytes c H)) = ap (λ b. cond b 0 (kept_of (conn_after g.id (bytes c H)))) q in
-          let now : conn_kept g (Comes e ∷ H) c ≡ kept_of (conn_after g.id (bytes c H ++ o)) = ap (λ b. cond b 0 (kept_of (conn_after g.id (bytes c (Comes e ∷ H))))) q ∙ ap (λ p. kept_of (conn_after g.id p)) (grown g H t h e c o is z) in
-          part_looks r looks looks' (kept_of (conn_after g.id (bytes c H))) (kept_of (conn_after g.id (bytes c H ++ o))) (kept g H) (kept g (Comes e ∷ H)) (length o)
+          let was : conn_kept g H c ≡ held_of (conn_after g.id (bytes c H)) = ap (λ b. cond b 0 (held_of (conn_after g.id (bytes c H)))) q in
+          let now : conn_kept g (Comes e ∷ H) c ≡ held_of (conn_after g.id (bytes c H ++ o)) = ap (λ b. cond b 0 (held_of (conn_after g.id (bytes c (Comes e ∷ H))))) q ∙ ap (λ p. held_of (conn_after g.id p)) (grown g H t h e c o is z) in
+          part_looks r looks looks' (held_of (conn_after g.id (bytes c H))) (held_of (conn_after g.id (bytes c H ++ o))) (kept g H) (kept g (Comes e ∷ H)) (length o)
           (omega (arith, piece_moves g H h.keeps.proper e c o is z, was, now)) (omega (arith, piece_part g H h.keeps.proper e c o is z, was)) (live g.id (bytes c H) (hears g H t h e c o is z q))
 
 -- ---- a reply
@@ -128,10 +128,10 @@ module _ (g : Config) (H : List Mark) (t : Tables) (h : Holds g H t) (e : Entry)
 
   module _ (k : Peer) (was : Some k ≡ lookup (is_at (nat_cmp l)) t.peers) where
     pub replied_looks : {A : Type 0} (r : Result A OutOfMemory) (looks looks' : ℕ)
-        → ((own : PeerId) (ms : List Member) (b : Bool) (q : List ℕ) (n : ℕ) → k.link ≡ link_after own ms b q n → Looks looks looks' (kept_of_replies (heard_after q)) (kept_of_replies (heard_after (if b then q ++ o else q))) (length o) r)
+        → ((own : PeerId) (ms : List Member) (b : Bool) (q : List ℕ) (n : ℕ) → k.link ≡ link_after own ms b q n → Looks looks looks' (held_of_replies (heard_after q)) (held_of_replies (heard_after (if b then q ++ o else q))) (length o) r)
         → Looks looks looks' (kept g H) (kept g (Comes e ∷ H)) (length o) r
     replied_looks {A} r looks looks' paid =
-        part_looks r looks looks' (kept_of_replies (heard_after (replies l H))) (kept_of_replies (heard_after (if is_linked l H then replies l H ++ o else replies l H))) (kept g H) (kept g (Comes e ∷ H)) (length o)
+        part_looks r looks looks' (held_of_replies (heard_after (replies l H))) (held_of_replies (heard_after (if is_linked l H then replies l H ++ o else replies l H))) (kept g H) (kept g (Comes e ∷ H)) (length o)
         (omega (arith, reply_moves g H h.keeps.proper e l o is v known, had, now)) (omega (arith, reply_part g H h.keeps.proper e l o is v known, had)) (paid g.id (line l H) (is_linked l H) (replies l H) (taken l H) (row_link g H t h l k was))
       where
         v : Life
@@ -143,12 +143,12 @@ module _ (g : Config) (H : List Mark) (t : Tables) (h : Holds g H t) (e : Entry)
         same : l ≡ v.link
         same = link_is g H t h l k was
 
-        had : kept_of_replies (heard_after (replies l H)) ≡ replies_kept g H v
-        had = ap (λ n. kept_of_replies (heard_after (replies n H))) same
+        had : held_of_replies (heard_after (replies l H)) ≡ replies_kept g H v
+        had = ap (λ n. held_of_replies (heard_after (replies n H))) same
 
         grows : (b : Bool) → is_linked l H ≡ b → replies l (Comes e ∷ H) ≡ (if b then replies l H ++ o else replies l H)
         grows true q = let this : eqb l l ≡ true = eq-eqb l l refl in rw (q, is, this) refl
         grows false q = rw q (append-nil (replies l H))
 
-        now : kept_of_replies (heard_after (if is_linked l H then replies l H ++ o else replies l H)) ≡ replies_kept g (Comes e ∷ H) v
-        now = ap (λ p. kept_of_replies (heard_after p)) (sym (grows (is_linked l H) refl)) ∙ ap (λ n. kept_of_replies (heard_after (replies n (Comes e ∷ H)))) same
+        now : held_of_replies (heard_after (if is_linked l H then replies l H ++ o else replies l H)) ≡ replies_kept g (Comes e ∷ H) v
+        now = ap (λ p. held_of_replies (heard_after p)) (sym (grows (is_linked l H) refl)) ∙ ap (λ n. held_of_replies (heard_after (replies n (Comes e ∷ H)))) same

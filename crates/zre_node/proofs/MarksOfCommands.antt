@@ -23,7 +23,7 @@ use Rattle.zre_journal.specs.Peers.{Life, lives, life, life_of, runner, counted,
 use Rattle.zre_journal.specs.Links.{groups, status}
 use Rattle.zre_journal.specs.Commands.{has_group, is_member, is_too_big, at_join, at_leave, at_whisper, at_shout}
 use Rattle.zre_journal.specs.Pushes.{push, push_all}
-use Rattle.zre_journal.proofs.ProperKept.{Joins-proper, Leaves-proper, Refuses-proper}
+use Rattle.zre_journal.proofs.ProperAfterMarks.{Joins-proper, Leaves-proper, Refuses-proper}
 use Rattle.zre_journal.proofs.NumberedLists.{All-append, All-without}
 use Rattle.zre_tables.specs.declared.peer.Peer.{Peer}
 use Rattle.zre_node.specs.declared.tables.Tables.{Tables}

@@ -13,8 +13,8 @@ use Rattle.zre_node.specs.declared.tables.Tables.{Tables}
 use Rattle.zre_tables.specs.Tabled.{Tabled}
 use Rattle.zre_tables.specs.Searches.{link_among}
 use Rattle.zre_node.specs.Stands.{Holds, IsPeer}
-use Rattle.zre_tables.proofs.Entries.{as_many}
-use Rattle.zre_journal.proofs.Known.{known_of}
+use Rattle.zre_tables.proofs.EntriesOfMaps.{as_many}
+use Rattle.zre_journal.proofs.KnownPeers.{known_of}
 
 -- a search of the rows by an id finds the link of the known peer
 pub link_in_rows : (g : Config) (H : List Mark) (p : PeerId) (vs : List Life) (es : List (ℕ × Peer)) → Tabled (λ (v : Life). v.link) (IsPeer g H) vs es

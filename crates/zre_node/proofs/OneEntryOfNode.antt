@@ -11,7 +11,7 @@ use Rattle.zre_journal.specs.Happens.{marks, has_stopped}
 use Rattle.zre_journal.specs.Ledger.{KeepsLedgers}
 use Rattle.zre_journal.specs.Told.{told}
 use Rattle.zre_journal.proofs.JoinedEntries.{continues}
-use Rattle.zre_journal.proofs.Windows.{keeps_ledgers}
+use Rattle.zre_journal.proofs.NearMessages.{keeps_ledgers}
 use Rattle.zre_node.specs.declared.effects.Effects.{Effects}
 use Rattle.zre_node.specs.declared.effects.Step.{Step}
 use Rattle.zre_node.specs.declared.node.Node.{Node}

@@ -4,16 +4,16 @@ use Rattle.std.specs.BTreeMap.{is_at}
 use Rattle.std.specs.Map.{set_value}
 use Rattle.zre_values.specs.declared.peer_id.PeerId.{PeerId}
 use Rattle.zre_values.specs.declared.settings.Settings.{Settings as Config}
-use Rattle.zre_journal.specs.Chronicle.{Mark, Greets, Shakes, AnswersPing}
+use Rattle.zre_journal.specs.Chronicle.{Mark, Greets, Identifies, AnswersPing}
 use Rattle.zre_journal.specs.Connections.{open_ones, is_open, identity, is_same, other_with}
-use Rattle.zre_journal.proofs.ProperKept.{Greets-proper, AnswersPing-proper, Shakes-proper}
+use Rattle.zre_journal.proofs.ProperAfterMarks.{Greets-proper, AnswersPing-proper, Identifies-proper}
 use Rattle.zre_journal.proofs.NumberedLists.{eqb-comm, found_passes, found_there}
 use Rattle.zre_tables.specs.declared.connection.Connection.{Connection}
 use Rattle.zre_node.specs.declared.tables.Tables.{Tables}
 use Rattle.zre_tables.specs.Tabled.{Tabled}
 use Rattle.zre_tables.specs.Searches.{other_among}
 use Rattle.zre_node.specs.Stands.{Holds, IsConn, kept_conn, IsOpenIfAny}
-use Rattle.zre_tables.proofs.Entries.{changed}
+use Rattle.zre_tables.proofs.EntriesOfMaps.{changed}
 use Rattle.zre_node.proofs.ConnectionsComeAndGo.{with_conns}
 
 -- ---- the search for another
@@ -40,14 +40,14 @@ other_open p c H (Some d) e = found_there (λ x. not (eqb c x) && is_same p (ide
 -- ---- READY
 
 module _ (g : Config) (H : List Mark) (t : Tables) (h : Holds g H t) (c : ℕ) (p : PeerId) (is_there : is_open c H ≡ true) (unknown : identity c H ≡ None) (alone : other_with p c H ≡ None) where
-  pub introduced : (C : List (ℕ × Connection)) → C ≡ set_value (is_at (nat_cmp c)) t.conns (record (kept_conn g H c) { identity = Some p }) → Holds g (Shakes c p ∷ H) (record t { conns = C })
-  introduced C is = with_conns g H (Shakes c p ∷ H) t t.last C h (Shakes-proper H h.keeps.proper c p is_there unknown alone) refl refl refl h.peers refl refl refl h.keeps.last_is
-      (subst (λ es. Tabled (λ (d : ℕ). d) (IsConn g (Shakes c p ∷ H)) (open_ones H) es) (sym is)
-      (changed (λ (d : ℕ). d) (IsConn g H) (IsConn g (Shakes c p ∷ H)) c (record (kept_conn g H c) { identity = Some p })
+  pub introduced : (C : List (ℕ × Connection)) → C ≡ set_value (is_at (nat_cmp c)) t.conns (record (kept_conn g H c) { identity = Some p }) → Holds g (Identifies c p ∷ H) (record t { conns = C })
+  introduced C is = with_conns g H (Identifies c p ∷ H) t t.last C h (Identifies-proper H h.keeps.proper c p is_there unknown alone) refl refl refl h.peers refl refl refl h.keeps.last_is
+      (subst (λ es. Tabled (λ (d : ℕ). d) (IsConn g (Identifies c p ∷ H)) (open_ones H) es) (sym is)
+      (changed (λ (d : ℕ). d) (IsConn g H) (IsConn g (Identifies c p ∷ H)) c (record (kept_conn g H c) { identity = Some p })
       (λ d w far k. let off : eqb d c ≡ false = eqb-comm d c ∙ far in k ∙ rw off refl) (open_ones H) t.conns h.keeps.proper.opening.open_apart
       (λ d f. let same : c ≡ d = eqb-true c d (found_passes (eqb c) (open_ones H) d f) in
       let me : eqb c c ≡ true = eq-eqb c c refl in
-      subst (λ x. record (kept_conn g H c) { identity = Some p } ≡ kept_conn g (Shakes c p ∷ H) x) same (rw me refl)) h.keeps.conns))
+      subst (λ x. record (kept_conn g H c) { identity = Some p } ≡ kept_conn g (Identifies c p ∷ H) x) same (rw me refl)) h.keeps.conns))
 
 -- ---- a greeting
 

@@ -22,7 +22,7 @@ use Rattle.zre_journal.specs.LinkEntries.{cause_by_reply, end_by, answers, at_re
 use Rattle.zre_journal.specs.Links.{line, is_linked, replies, newly_pinged, taken, unsent}
 use Rattle.zre_journal.specs.Peers.{Life, lives, life, births, active, runner, counted}
 use Rattle.zre_journal.specs.Told.{told}
-use Rattle.zre_journal.proofs.ProperKept.{known_lives, Comes-proper, PutsPong-proper}
+use Rattle.zre_journal.proofs.ProperAfterMarks.{known_lives, Comes-proper, PutsPong-proper}
 use Rattle.zre_journal.proofs.NumberedLists.{eqb-comm}
 use Rattle.zre_node.specs.declared.effects.Effects.{Effects}
 use Rattle.zre_tables.specs.declared.peer.Peer.{Peer}
@@ -32,7 +32,7 @@ use Rattle.zre_tables.specs.Rows.{with_row}
 use Rattle.zre_tables.specs.Tabled.{Tabled}
 use Rattle.zre_node.specs.Stands.{Holds, Keeps, Did, IsPeer, IsKept, IsConn, link_of_life}
 use Rattle.zre_node.proofs.EntriesThatCome.{other_conn, no_replies}
-use Rattle.zre_tables.proofs.Entries.{Agree, retold, retold_of}
+use Rattle.zre_tables.proofs.EntriesOfMaps.{Agree, retold, retold_of}
 use Rattle.zre_node.proofs.EffectsOnLinks.{key, its, link_is, its_known, relinked}
 use Rattle.zre_node.proofs.MarksAfterMarks.{or-nil}
 use Rattle.zre_node.proofs.BodyOnOneLink.{row_link}

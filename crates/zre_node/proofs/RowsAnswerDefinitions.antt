@@ -10,7 +10,7 @@ use Rattle.zre_values.specs.declared.settings.Settings.{Settings as Config}
 use Rattle.zre_journal.specs.Chronicle.{Mark}
 use Rattle.zre_journal.specs.Happens.{has_stopped}
 use Rattle.zre_journal.specs.Peers.{Life, life, lives, runner, counted, is_entered}
-use Rattle.zre_journal.proofs.Entered.{unheard_idle}
+use Rattle.zre_journal.proofs.EnteredPeersSpoke.{unheard_idle}
 use Rattle.zre_journal.proofs.NumberedLists.{found_passes}
 use Rattle.zre_tables.specs.Rows.{row_at}
 use Rattle.zre_tables.specs.Views.{view_of_row, view_among, ids_entered}

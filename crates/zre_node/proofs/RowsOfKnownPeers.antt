@@ -15,7 +15,7 @@ use Rattle.zre_node.specs.declared.tables.Tables.{Tables}
 use Rattle.zre_tables.specs.Tabled.{Tabled}
 use Rattle.zre_tables.specs.Runs.{IsRunning, HadRun, HasRun}
 use Rattle.zre_node.specs.Stands.{Holds, Keeps, Nearly, Parted, IsLeaving, IsBut, IsPeer}
-use Rattle.zre_tables.proofs.Entries.{Row, Is, IsNone, row, removed, retold}
+use Rattle.zre_tables.proofs.EntriesOfMaps.{Row, Is, IsNone, row, removed, retold}
 use Rattle.zre_node.proofs.UnchangedByMarks.{keeps_as}
 
 pub keeps_with : (g : Config) (H : List Mark) (t : Tables) → Keeps g H t → (P : List (ℕ × Peer)) → Keeps g H (record t { peers = P })

@@ -16,14 +16,14 @@ use Rattle.zre_journal.specs.Commands.{at_stop}
 use Rattle.zre_journal.specs.Told.{told}
 use Rattle.zre_journal.specs.Done.{done}
 use Rattle.zre_journal.proofs.JoinedEntries.{after-append, told-append, done-append}
-use Rattle.zre_journal.proofs.ProperKept.{run_known}
-use Rattle.zre_journal.proofs.Known.{end_all, each_known}
-use Rattle.zre_journal.proofs.Stopping.{stop-is, none_known, none_open, drops_lives}
+use Rattle.zre_journal.proofs.ProperAfterMarks.{run_known}
+use Rattle.zre_journal.proofs.KnownPeers.{end_all, each_known}
+use Rattle.zre_journal.proofs.NothingAfterStop.{stop-is, none_known, none_open, drops_lives}
 use Rattle.zre_node.specs.declared.tables.Tables.{Tables}
 use Rattle.zre_node.specs.declared.effects.Effects.{Effects}
 use Rattle.zre_tables.specs.Tabled.{Tabled}
 use Rattle.zre_node.specs.Stands.{Holds, Did, Rests, Stopped, AreKnown, RunNone, IsPeer, IsConn}
-use Rattle.zre_tables.proofs.Entries.{keys_are}
+use Rattle.zre_tables.proofs.EntriesOfMaps.{keys_are}
 use Rattle.zre_node.proofs.MarksAfterMarks.{did_then}
 
 pub map-map : {A B C : Type 0} (f : A → B) (g : B → C) (xs : List A) → map g (map f xs) ≡ map (λ x. g (f x)) xs

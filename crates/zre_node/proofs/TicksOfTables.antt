@@ -29,12 +29,12 @@ use Rattle.zre_journal.specs.Links.{line, unsent}
 use Rattle.zre_journal.specs.Peers.{Life, lives, life, runner, counted, view}
 use Rattle.zre_journal.specs.Proper.{Apart}
 use Rattle.zre_journal.specs.Told.{told, becoming_evasive}
-use Rattle.zre_journal.proofs.Idle.{AreNoStarts, ends_start_none, none_and_none}
+use Rattle.zre_journal.proofs.IdleConnections.{AreNoStarts, ends_start_none, none_and_none}
 use Rattle.zre_journal.proofs.JoinedEntries.{after-append}
-use Rattle.zre_journal.proofs.ProperKept.{IsEvasive-proper, SendsBeacon-proper}
-use Rattle.zre_journal.proofs.Known.{ends_keep, life_stays, end_all}
+use Rattle.zre_journal.proofs.ProperAfterMarks.{IsEvasive-proper, SendsBeacon-proper}
+use Rattle.zre_journal.proofs.KnownPeers.{ends_keep, life_stays, end_all}
 use Rattle.zre_journal.proofs.NumberedLists.{found_passes}
-use Rattle.zre_journal.proofs.Ticks.{expiring, wavering, stale, expired, expiring_apart, wavering_apart, wavering_known, expiring_known as are_known, wavering_entered as are_entered, stale_idle as are_idle}
+use Rattle.zre_journal.proofs.ExpiringAtTicks.{expiring, wavering, stale, expired, expiring_apart, wavering_apart, wavering_known, expiring_known as are_known, wavering_entered as are_entered, stale_idle as are_idle}
 use Rattle.zre_tables.specs.declared.connection.Connection.{Connection}
 use Rattle.zre_node.specs.declared.effects.Effects.{Effects}
 use Rattle.zre_tables.specs.declared.peer.Peer.{Peer}
@@ -46,7 +46,7 @@ use Rattle.zre_tables.specs.Searches.{row_silent, row_evasive, row_stale}
 use Rattle.zre_node.specs.Ticks.{probes, IsEntered, AreEntered, AreIdle}
 use Rattle.zre_tables.specs.Runs.{HasRun}
 use Rattle.zre_node.specs.Stands.{Holds, Did, IsPeer, IsConn, AreKnown, is_quiet}
-use Rattle.zre_tables.proofs.Finding.{numbers_are}
+use Rattle.zre_tables.proofs.RowsThatPass.{numbers_are}
 use Rattle.zre_node.proofs.MarksAfterMarks.{did_as, did_by, did_then}
 use Rattle.zre_node.proofs.ConnectionsComeAndGo.{with_conns}
 use Rattle.zre_node.proofs.RowsOfKnownPeers.{its_row, shows}

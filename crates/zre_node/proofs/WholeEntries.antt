@@ -20,7 +20,7 @@ use Rattle.zre_journal.specs.Peers.{Life, lives}
 use Rattle.zre_journal.specs.Told.{told}
 use Rattle.zre_node.specs.declared.effects.Effects.{Effects}
 use Rattle.zre_node.specs.declared.tables.Tables.{Tables}
-use Rattle.zre_journal.proofs.Stopping.{at_end}
+use Rattle.zre_journal.proofs.NothingAfterStop.{at_end}
 use Rattle.zre_node.specs.Kinds.{is_about_link, is_incoming}
 use Rattle.zre_node.specs.Journal.{StandsIn, Took}
 use Rattle.zre_node.specs.Links.{Notes}

@@ -8,7 +8,7 @@ use Rattle.std.specs.Map.{keys_of}
 use Rattle.zre_values.specs.declared.memory.OutOfMemory.{OutOfMemory}
 use Rattle.zre_values.specs.declared.peer_id.PeerId.{PeerId}
 use Rattle.zre_zmtp.specs.Looks.{Looks}
-use Rattle.zre_link.specs.Heard.{heard_after, kept_of}
+use Rattle.zre_link.specs.Heard.{heard_after, held_of}
 use Rattle.zre_link.specs.Link.{Sending, link_after, link_answering}
 use Rattle.zre_link.specs.Text.{Member}
 use Rattle.zre_tables.specs.Rows.{Changes, row_at, with_row}
@@ -45,14 +45,14 @@ changes n i inside now view_is row up there_is at change w is =
 -- what was paid for a reply, by what came before
 pub paid_as : {A : Type 0} (X Y : A → Type 0) (r : Result A OutOfMemory) (own : PeerId) (line : List Member) (linked : Bool) (o : List ℕ) (n : ℕ) (bytes : List ℕ) (s s' : Sending) (looks looks' : ℕ)
     → s ≡ link_after own line linked o n → (s ≡ link_after own line true o n → IfOk r (λ why. (s' ≡ link_answering own line true o n bytes) × X why))
-    → (s.linked ≡ false → IfOk r (λ why. (s' ≡ s) × Y why)) → Looks looks looks' (kept_of s.replies) (kept_of s'.replies) (length bytes) r
-    → Looks looks looks' (kept_of (heard_after o)) (kept_of (heard_after (if linked then o ++ bytes else o))) (length bytes) r
+    → (s.linked ≡ false → IfOk r (λ why. (s' ≡ s) × Y why)) → Looks looks looks' (held_of s.replies) (held_of s'.replies) (length bytes) r
+    → Looks looks looks' (held_of (heard_after o)) (held_of (heard_after (if linked then o ++ bytes else o))) (length bytes) r
 paid_as X Y (Ok why) own line true o n bytes s s' looks looks' is standing waiting p =
-    (omega (arith, ap (λ (z : Sending). kept_of z.replies) is, ap (λ (z : Sending). kept_of z.replies) (standing is).0, p.0), tt)
+    (omega (arith, ap (λ (z : Sending). held_of z.replies) is, ap (λ (z : Sending). held_of z.replies) (standing is).0, p.0), tt)
 paid_as X Y (Ok why) own line false o n bytes s s' looks looks' is standing waiting p =
-    (omega (arith, ap (λ (z : Sending). kept_of z.replies) is, ap (λ (z : Sending). kept_of z.replies) (waiting (ap (λ (z : Sending). z.linked) is)).0, p.0), tt)
+    (omega (arith, ap (λ (z : Sending). held_of z.replies) is, ap (λ (z : Sending). held_of z.replies) (waiting (ap (λ (z : Sending). z.linked) is)).0, p.0), tt)
 paid_as X Y (Err e) own line linked o n bytes s s' looks looks' is standing waiting p =
-    (tt, omega (arith, ap (λ (z : Sending). kept_of z.replies) is, p.1))
+    (tt, omega (arith, ap (λ (z : Sending). held_of z.replies) is, p.1))
 
 -- a row that shows that its peer is there, and then has another run
 pub retaken : (k p x w : Peer) (now : ℕ) → k ≡ x → p ≡ record k { active = now } → w ≡ record p { run = w.run } → w ≡ record x { active = now; run = w.run }

@@ -5,15 +5,15 @@ use Rattle.zre_zmtp.specs.Stream.{Whole}
 use Rattle.zre_zmtp.specs.declared.want.Want.TheVariants.{Dealer}
 use Rattle.zre_zmtp.specs.declared.fault.ZmtpFault.{ZmtpFault}
 use Rattle.zre_zmtp.specs.Reading.{IsOver}
-use Rattle.zre_zmtp.proofs.Feeding.{is_over}
-use Rattle.zre_mailbox.specs.Conn.{ConnHearing, conn_after, is_ignored, is_spent, identity_in, reading, phase_by, kept_in, kept_of}
+use Rattle.zre_zmtp.proofs.ReadersFollowStreams.{is_over}
+use Rattle.zre_mailbox.specs.Conn.{ConnHearing, conn_after, is_ignored, is_spent, identity_in, reading, phase_by, held_in, held_of}
 use Rattle.zre_mailbox.specs.declared.phase.Phase.TheVariants.{Spent}
 use Rattle.zre_zmtp.specs.declared.item.Item.{Item}
 use Rattle.zre_zmtp.specs.Reading.{Adds}
 use Rattle.zre_mailbox.specs.Conn.{Hears}
 use Rattle.zre_mailbox.specs.declared.arrival.Arrival.{Arrival}
 use Rattle.zre_mailbox.specs.Talk.{Arrived, arrivals, arrivals_in, fault_in, fault_said, new_arrivals, completed}
-use Rattle.zre_mailbox.proofs.Growing.{goes}
+use Rattle.zre_mailbox.proofs.TalkGrows.{goes}
 
 pub never_ignored : (own : PeerId) (o : List ℕ) → is_ignored (conn_after own o) ≡ false
 never_ignored own o = by (fault_in own o) refl
@@ -35,8 +35,8 @@ spent_stays own o more s = by (fault_in own o) refl
         (rw (later, e) (ap (λ (i : Option PeerId). record { phase = Spent; identity = i }) same), ((goes own o more).over f e).1)
 
 -- after a fault nothing is kept
-pub kept_refused : (own : PeerId) (o : List ℕ) (f : ZmtpFault) (h : ConnHearing) → h ≡ conn_after own o → fault_in own o ≡ Some f → kept_of h ≡ 0
-kept_refused own o f h is e = ap kept_of is ∙ ap (λ x. kept_in (phase_by x (reading (Dealer own) Whole o))) e
+pub kept_refused : (own : PeerId) (o : List ℕ) (f : ZmtpFault) (h : ConnHearing) → h ≡ conn_after own o → fault_in own o ≡ Some f → held_of h ≡ 0
+kept_refused own o f h is e = ap held_of is ∙ ap (λ x. held_in (phase_by x (reading (Dealer own) Whole o))) e
 
 -- ---- items
 

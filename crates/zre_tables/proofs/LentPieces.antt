@@ -7,7 +7,7 @@ use Rattle.zre_zmtp.specs.Looks.{Looks, IsPaid, IsPaidOnRefusal}
 use Rattle.zre_zmtp.specs.declared.bodies.Came.{Came}
 use Rattle.zre_zmtp.specs.declared.bodies.Came.TheVariants as came
 use Rattle.zre_mailbox.specs.declared.arrival.Arrival.{Arrival}
-use Rattle.zre_mailbox.specs.Conn.{ConnHearing, conn_after, Hears, HearsLent, lent_arrivals, kept_of}
+use Rattle.zre_mailbox.specs.Conn.{ConnHearing, conn_after, Hears, HearsLent, lent_arrivals, held_of}
 use Rattle.zre_mailbox.specs.Talk.{Arrived, completed, fault_in, fault_said, new_arrivals}
 use Rattle.zre_tables.specs.Lending.{ConnTakes, RowTakes}
 use Rattle.zre_tables.specs.Rows.{with_row}
@@ -36,8 +36,8 @@ row_takes came.Other n x own o piece h h' was now put same t = same t
 
 -- looks of a piece that was taken, by what is kept after it
 pub taken_looks : (r : Result Came OutOfMemory) (own : PeerId) (o piece : List ℕ) (h h' : ConnHearing) (looks looks' : ℕ) → h ≡ conn_after own o → IfOk r (λ c. ConnTakes c own o piece h h') → r ≢ Ok came.Other
-    → Looks looks looks' (kept_of h) (kept_of h') (length piece) r → Looks looks looks' (kept_of (conn_after own o)) (kept_of (conn_after own (o ++ piece))) (length piece) r
-taken_looks (Ok (came.Message l)) own o piece h h' looks looks' e t taken p = (subst (λ (x : ConnHearing). IsPaid looks looks' (kept_of x) (kept_of (conn_after own (o ++ piece))) (length piece)) e (subst (λ (x : ConnHearing). IsPaid looks looks' (kept_of h) (kept_of x) (length piece)) t.0 p.0), p.1)
-taken_looks (Ok came.Part) own o piece h h' looks looks' e t taken p = (subst (λ (x : ConnHearing). IsPaid looks looks' (kept_of x) (kept_of (conn_after own (o ++ piece))) (length piece)) e (subst (λ (x : ConnHearing). IsPaid looks looks' (kept_of h) (kept_of x) (length piece)) t.0 p.0), p.1)
+    → Looks looks looks' (held_of h) (held_of h') (length piece) r → Looks looks looks' (held_of (conn_after own o)) (held_of (conn_after own (o ++ piece))) (length piece) r
+taken_looks (Ok (came.Message l)) own o piece h h' looks looks' e t taken p = (subst (λ (x : ConnHearing). IsPaid looks looks' (held_of x) (held_of (conn_after own (o ++ piece))) (length piece)) e (subst (λ (x : ConnHearing). IsPaid looks looks' (held_of h) (held_of x) (length piece)) t.0 p.0), p.1)
+taken_looks (Ok came.Part) own o piece h h' looks looks' e t taken p = (subst (λ (x : ConnHearing). IsPaid looks looks' (held_of x) (held_of (conn_after own (o ++ piece))) (length piece)) e (subst (λ (x : ConnHearing). IsPaid looks looks' (held_of h) (held_of x) (length piece)) t.0 p.0), p.1)
 taken_looks (Ok came.Other) own o piece h h' looks looks' e t taken p = absurd (taken refl)
-taken_looks (Err x) own o piece h h' looks looks' e t taken p = (p.0, subst (λ (y : ConnHearing). IsPaidOnRefusal looks looks' (kept_of y) (length piece)) e p.1)
+taken_looks (Err x) own o piece h h' looks looks' e t taken p = (p.0, subst (λ (y : ConnHearing). IsPaidOnRefusal looks looks' (held_of y) (length piece)) e p.1)

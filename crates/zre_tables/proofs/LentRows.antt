@@ -4,7 +4,7 @@ use Rattle.std.proofs.lemmas.Result.{on_err_weaker}
 use Rattle.std.specs.List.{slice_set}
 use Rattle.zre_values.specs.declared.limits.TheConstants.{UNSENT_OCTETS}
 use Rattle.zre_values.specs.declared.peer_id.PeerId.{PeerId}
-use Rattle.zre_values.proofs.Answered.{on_ok}
+use Rattle.zre_values.proofs.AnswersThatAreOk.{on_ok}
 use Rattle.zre_msg.specs.declared.message.Body.{Body}
 use Rattle.zre_link.specs.declared.fault.PushFault.{PushFault}
 use Rattle.zre_link.specs.Link.{Sending, link_after, unsent_of, RefusesPush}

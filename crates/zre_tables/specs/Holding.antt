@@ -1,8 +1,8 @@
 -- How many octets the rows of the tables hold, and up to the greatest number that is told.
 use Rattle.std.specs.Prelude.{◌≡◌, ℕ, ◌+◌, ◌-◌, ◌^◌, min, Bool, List, length, Option, Some, None, option_and_then}
 use Rattle.zre_values.specs.declared.peer_id.PeerId.{PeerId}
-use Rattle.zre_mailbox.specs.Conn.{ConnHearing, conn_after, kept_of}
-use Rattle.zre_link.specs.Heard.{kept_of as kept_of_replies}
+use Rattle.zre_mailbox.specs.Conn.{ConnHearing, conn_after, held_of}
+use Rattle.zre_link.specs.Heard.{held_of as held_of_replies}
 use Rattle.zre_link.specs.Link.{link_after}
 use Rattle.zre_link.specs.Text.{Member}
 use Rattle.zre_peer.specs.declared.view.View.{View}
@@ -19,7 +19,7 @@ capped n = min n (2 ^ 64 - 1)
 -- of what reads a connection, where something does
 abbrev pub reader_octets : Option ConnHearing → ℕ
 reader_octets None = 0
-reader_octets (Some h) = kept_of h
+reader_octets (Some h) = held_of h
 
 -- of the row of a connection
 abbrev pub conn_row_octets : Connection → ℕ
@@ -41,7 +41,7 @@ shown_octets (Some v) = view_octets v
 
 -- of the row of a peer: the replies on its link, what waits there, and its view
 abbrev pub peer_row_octets : Peer → ℕ
-peer_row_octets k = kept_of_replies k.link.replies + length k.link.queue + shown_octets (view_of_row k)
+peer_row_octets k = held_of_replies k.link.replies + length k.link.queue + shown_octets (view_of_row k)
 
 -- its link stands with its line, after what came back and what has gone out
 pub record IsSending (k : Peer) : Type 0 where

@@ -3,7 +3,7 @@
 ghost use Rattle.std.specs.Prelude.{◌≡◌, ◌≢◌, ℕ, List, [], ◌++◌, None, Some, Ok, IfOk, length, map, ◌+◌, ◌≤◌};
 ghost use Rattle.zre_values.specs.declared.peer_id.PeerId.{PeerId as PeerIdValue};
 ghost use Rattle.zre_zmtp.specs.Looks.{Looks};
-ghost use Rattle.zre_mailbox.specs.Conn.{conn_after, kept_of};
+ghost use Rattle.zre_mailbox.specs.Conn.{conn_after, held_of};
 ghost use Rattle.zre_mailbox.specs.Talk.{Arrived, arrivals_in, completed, fault_said};
 ghost use Rattle.zre_tables.specs.Rows.{row_at, with_row};
 ghost use Rattle.zre_tables.specs.Holding.{reader_at};
@@ -29,7 +29,7 @@ fn read<L: Ledger>(
         × (map (λ a. Arrived a) (arrivals_in items.new) ++ fault_said fault ≡ completed own o bytes.now)) }
     ensures once { steps.new ≤ steps.old + length bytes.now }
     ensures looks { (own : PeerIdValue) (o : List ℕ) → conn.old ≡ conn_after own o →
-        Looks steps.old steps.new (kept_of conn.old) (kept_of conn.new) (length bytes.now) result }
+        Looks steps.old steps.new (held_of conn.old) (held_of conn.new) (length bytes.now) result }
 {
     if conn.ignored() {
         return Ok(None);
@@ -59,7 +59,7 @@ fn lend<'a, L: Ledger>(
     // How many octets are looked at.
     ensures once { steps.new ≤ steps.old + length bytes.now }
     ensures looks { (own : PeerIdValue) (o : List ℕ) → conn.old ≡ conn_after own o → result ≢ Ok Came.Other →
-        Looks steps.old steps.new (kept_of conn.old) (kept_of conn.new) (length bytes.now) result }
+        Looks steps.old steps.new (held_of conn.old) (held_of conn.new) (length bytes.now) result }
 {
     if conn.ignored() || conn.spent() {
         return Ok(Came::Other);
@@ -87,7 +87,7 @@ impl Conns {
         ensures once { steps.new ≤ steps.old + length bytes.now }
         ensures looks { (own : PeerIdValue) (o : List ℕ) → reader_at conn self.old ≡ Some (conn_after own o)
             → result ≢ Ok Came.Other →
-            Looks steps.old steps.new (kept_of (conn_after own o)) (kept_of (conn_after own (o ++ bytes.now)))
+            Looks steps.old steps.new (held_of (conn_after own o)) (held_of (conn_after own (o ++ bytes.now)))
             (length bytes.now) result }
         // A connection without a reader.
         ensures no_reader { reader_at conn self.old ≡ None →
@@ -122,7 +122,7 @@ impl Conns {
         // How many octets are looked at.
         ensures once { steps.new ≤ steps.old + length bytes.now }
         ensures looks { (own : PeerIdValue) (o : List ℕ) → reader_at conn self.old ≡ Some (conn_after own o) →
-            Looks steps.old steps.new (kept_of (conn_after own o)) (kept_of (conn_after own (o ++ bytes.now)))
+            Looks steps.old steps.new (held_of (conn_after own o)) (held_of (conn_after own (o ++ bytes.now)))
             (length bytes.now) result }
         // A connection without a reader.
         ensures no_reader { reader_at conn self.old ≡ None →

@@ -4,7 +4,7 @@ ghost use Rattle.std.specs.Prelude.{◌≡◌, ℕ, length, List, ◌++◌, Bool
 ghost use Rattle.std.specs.Prelude.{◌+◌, ◌≤◌};
 ghost use Rattle.zre_values.specs.declared.peer_id.PeerId.{PeerId as PeerIdValue};
 ghost use Rattle.zre_zmtp.specs.Looks.{Looks};
-ghost use Rattle.zre_link.specs.Heard.{heard_after, kept_of, reply_fault};
+ghost use Rattle.zre_link.specs.Heard.{heard_after, held_of, reply_fault};
 ghost use Rattle.zre_link.specs.Link.{link_after, link_answering, slow_in};
 ghost use Rattle.zre_link.specs.Text.{Member};
 ghost use Rattle.zre_journal.specs.LinkEntries.{cause_by_reply};
@@ -30,7 +30,7 @@ fn hear_reply<L: Ledger>(
         × (why ≡ cause_by_reply (slow_in own line o n bytes.now) (reply_fault (o ++ bytes.now)))) }
     ensures waiting { link.old.linked ≡ false → IfOk result (λ why. (link.new ≡ link.old) × (why ≡ None)) }
     ensures once { steps.new ≤ steps.old + length bytes.now }
-    ensures looks { Looks steps.old steps.new (kept_of link.old.replies) (kept_of link.new.replies)
+    ensures looks { Looks steps.old steps.new (held_of link.old.replies) (held_of link.new.replies)
         (length bytes.now) result }
 {
     if !link.is_linked() {
@@ -68,8 +68,8 @@ impl Peers {
         ensures once { steps.new ≤ steps.old + length bytes.now }
         ensures looks { (x : PeerValue) (own : PeerIdValue) (line : List Member) (linked : Bool) (o : List ℕ) (n : ℕ)
             → row_at link self.old ≡ Some x → x.link ≡ link_after own line linked o n →
-            Looks steps.old steps.new (kept_of (heard_after o))
-            (kept_of (heard_after (if linked then o ++ bytes.now else o))) (length bytes.now) result }
+            Looks steps.old steps.new (held_of (heard_after o))
+            (held_of (heard_after (if linked then o ++ bytes.now else o))) (length bytes.now) result }
     {
         let Some(at) = self.rows.place(link) else {
             return Ok(None);

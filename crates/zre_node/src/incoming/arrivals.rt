@@ -7,10 +7,10 @@ ghost use Rattle.zre_mailbox.specs.Talk.{Arrived, Fault, fault_said, arrival_of,
 ghost use Rattle.zre_outside.specs.declared.entry.Entry.{Entry as EntryValue};
 ghost use Rattle.zre_outside.specs.declared.entry.Input.TheVariants as input;
 ghost use Rattle.zre_values.specs.declared.settings.Settings.{Settings as Config};
-ghost use Rattle.zre_journal.specs.Chronicle.{Mark, Comes, Shakes, Greets, AnswersPing, in_turn};
+ghost use Rattle.zre_journal.specs.Chronicle.{Mark, Comes, Identifies, Greets, AnswersPing, in_turn};
 ghost use Rattle.zre_journal.specs.Heard.{newly_completed};
 ghost use Rattle.zre_journal.specs.Connections.{is_live, is_open, identity, runs, other_with as other_in};
-ghost use Rattle.zre_journal.specs.Arrivals.{at_place, at_places, at_arrival, at_shaken, taken_over};
+ghost use Rattle.zre_journal.specs.Arrivals.{at_place, at_places, at_arrival, at_ready, taken_over};
 ghost use Rattle.zre_node.specs.Stands.{Holds, Did, IsOpenIfAny};
 ghost use Rattle.zre_zmtp.specs.Lending.{bodies_in};
 ghost use Rattle.zre_tables.specs.Lending.{said_lent};
@@ -68,7 +68,7 @@ impl Tables {
     // READY introduced this peer on a connection, and it is the only one of that peer.
     fn introduce(&mut self, conn: u64, peer: PeerId)
         ensures { (g : Config) (H : List Mark) → Holds g H self.old → is_open conn H ≡ true → identity conn H ≡ None →
-            other_in peer conn H ≡ None → Holds g (Shakes conn peer ∷ H) self.new }
+            other_in peer conn H ≡ None → Holds g (Identifies conn peer ∷ H) self.new }
     {
         self.conns.introduce(conn, peer);
     }
@@ -77,7 +77,7 @@ impl Tables {
     #[inline(never)]
     fn shaken(&mut self, out: &mut Effects, conn: u64, peer: PeerId) -> Result<(), OutOfMemory>
         ensures { (g : Config) (H : List Mark) → Holds g H self.old → is_open conn H ≡ true → identity conn H ≡ None →
-            OnOk result (Did g (at_shaken g conn peer None H) H self.new out.old out.new) }
+            OnOk result (Did g (at_ready g conn peer None H) H self.new out.old out.new) }
     {
         let older = self.conns.other_with(peer, conn);
         self.take_over(out, older)?;

@@ -4,7 +4,7 @@ use Rattle.zre_msg.specs.Lent.{message_of}
 use Rattle.zre_peer.specs.Runs.{events_of}
 use Rattle.zre_peer.specs.Views.{view_of}
 use Rattle.zre_tables.proofs.RunsOfRows.{if_err}
-use Rattle.zre_values.proofs.Answered.{on_ok}
+use Rattle.zre_values.proofs.AnswersThatAreOk.{on_ok}
 use Rattle.zre_tables.proofs.runs.go_on.Goals as goal
 
 pub returns-clause-ok : goal.returns-clause-ok
@@ -17,6 +17,6 @@ returns-clause-ok c = λ n id ms r.
 
 pub returns-clause-refused : goal.returns-clause-refused
 returns-clause-refused c = λ n id ms r.
-    if_err c.take_lent.result (c.take_lent.ensures.refused ms r.stands) c.take_lent.ensures.kept (λ e a kept other.
+    if_err c.take_lent.result (c.take_lent.ensures.refused ms r.stands) c.take_lent.ensures.view_unchanged (λ e a kept other.
     let f = a other in
     (f.0, f.2, r.conn, kept ∙ r.stands.view, f.3))

@@ -21,7 +21,7 @@ returns-in-Some-clause-due c = λ g J s d.
     let H = chronicle g J in
     let it = asked g H c.args.self.now.tables s.stands c.args.link c.in-Some.peer.now c.in-Some.ensures.value in
     let less = subst (λ k. taken k H < gate g k H) it.2 d.some in
-    (c.front.result.now, refl, c.front.ensures.some (ap (λ (x : Sending). has_front x) it.3 ∙ lt-ltb (taken it.0.link H) (gate g it.0.link H) less))
+    (c.front.result.now, refl, c.front.ensures.not_empty (ap (λ (x : Sending). has_front x) it.3 ∙ lt-ltb (taken it.0.link H) (gate g it.0.link H) less))
 
 pub returns-in-None-clause-due : goal.returns-in-None-clause-due
 returns-in-None-clause-due c = λ g J s d.

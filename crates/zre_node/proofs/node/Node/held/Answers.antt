@@ -3,7 +3,7 @@ use Rattle.zre_journal.specs.Asked.{held_after, bound_after}
 use Rattle.zre_journal.specs.Connections.{open_ones}
 use Rattle.zre_journal.specs.Events.{chronicle}
 use Rattle.zre_journal.specs.Peers.{lives}
-use Rattle.zre_journal.proofs.Holding.{talks-faultless, answers-faultless, within, held-most}
+use Rattle.zre_journal.proofs.HeldIsBounded.{talks-faultless, answers-faultless, within, held-most}
 use Rattle.zre_tables.specs.Holding.{capped}
 use Rattle.zre_node.proofs.HeldAmounts.{can_be, all_read, all_send, all_held, told_whole}
 use Rattle.zre_node.proofs.node.Node.held.Goals as goal

@@ -3,7 +3,7 @@ use Rattle.zre_journal.specs.Events.{chronicle}
 use Rattle.zre_journal.specs.Peers.{Life, lives}
 use Rattle.zre_node.specs.Stands.{IsPeer}
 use Rattle.zre_node.proofs.RowsAnswerDefinitions.{rows}
-use Rattle.zre_tables.proofs.Entries.{as_many}
+use Rattle.zre_tables.proofs.EntriesOfMaps.{as_many}
 use Rattle.zre_node.proofs.node.Node.known.Goals as goal
 
 pub returns : goal.returns

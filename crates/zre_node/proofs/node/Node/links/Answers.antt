@@ -3,7 +3,7 @@ use Rattle.zre_journal.specs.Events.{chronicle}
 use Rattle.zre_journal.specs.Peers.{Life, lives}
 use Rattle.zre_node.specs.Stands.{IsPeer}
 use Rattle.zre_node.proofs.RowsAnswerDefinitions.{rows}
-use Rattle.zre_tables.proofs.Entries.{keys_are}
+use Rattle.zre_tables.proofs.EntriesOfMaps.{keys_are}
 use Rattle.zre_node.proofs.node.Node.links.Goals as goal
 
 pub returns : goal.returns

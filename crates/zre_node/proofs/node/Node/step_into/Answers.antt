@@ -1,4 +1,4 @@
-use Rattle.zre_values.proofs.Answered.{on_ok}
+use Rattle.zre_values.proofs.AnswersThatAreOk.{on_ok}
 use Rattle.zre_node.proofs.OneEntryOfNode.{keeps_its_ledgers}
 use Rattle.zre_node.proofs.node.Node.step_into.Goals as goal
 

@@ -1,5 +1,5 @@
 use Rattle.std.proofs.Common.{◌≡◌, sym, ap, ◌∙◌, subst}
-use Rattle.zre_values.proofs.Answered.{on_ok}
+use Rattle.zre_values.proofs.AnswersThatAreOk.{on_ok}
 use Rattle.zre_outside.specs.declared.entry.Entry.{Entry}
 use Rattle.zre_outside.specs.declared.entry.Input.{Input}
 use Rattle.zre_outside.specs.declared.entry.Input.TheVariants as input

@@ -2,7 +2,7 @@ use Rattle.std.proofs.Common.{[], ◌∷◌, refl, sym, ap, ◌∙◌, append-ni
 use Rattle.zre_journal.specs.Chronicle.{Refuses}
 use Rattle.zre_node.specs.declared.effects.Effects.{Effects}
 use Rattle.zre_node.proofs.MarksOfCommands.{refused}
-use Rattle.zre_values.proofs.Answered.{on_ok}
+use Rattle.zre_values.proofs.AnswersThatAreOk.{on_ok}
 use Rattle.zre_node.proofs.MarksAfterMarks.{did_by}
 use Rattle.zre_node.proofs.outgoing.commands.decline.Goals as goal
 

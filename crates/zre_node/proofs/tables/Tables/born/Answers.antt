@@ -5,7 +5,7 @@ use Rattle.zre_outside.specs.declared.act.Act.TheVariants as act
 use Rattle.zre_node.specs.declared.effects.Effects.{Effects}
 use Rattle.zre_tables.specs.declared.peer.Peer.{Peer}
 use Rattle.zre_node.proofs.BirthsAndBeacons.{is_born, birth_did}
-use Rattle.zre_values.proofs.Answered.{on_ok}
+use Rattle.zre_values.proofs.AnswersThatAreOk.{on_ok}
 use Rattle.zre_node.proofs.tables.Tables.born.Goals as goal
 
 pub returns : goal.returns

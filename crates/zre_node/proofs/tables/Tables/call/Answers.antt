@@ -4,7 +4,7 @@ use Rattle.zre_outside.specs.declared.act.Act.TheVariants as act
 use Rattle.zre_values.specs.declared.settings.Settings.{Settings as Config}
 use Rattle.zre_journal.specs.Chronicle.{SendsBeacon}
 use Rattle.zre_node.specs.declared.effects.Effects.{Effects}
-use Rattle.zre_values.proofs.Answered.{on_ok}
+use Rattle.zre_values.proofs.AnswersThatAreOk.{on_ok}
 use Rattle.zre_node.proofs.MarksAfterMarks.{did_by}
 use Rattle.zre_node.proofs.TicksOfTables.{holds_calls}
 use Rattle.zre_node.proofs.tables.Tables.call.Goals as goal

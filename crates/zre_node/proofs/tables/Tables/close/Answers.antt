@@ -1,7 +1,7 @@
 use Rattle.std.proofs.Common.{[], ◌∷◌, refl, ap}
 use Rattle.zre_journal.specs.Chronicle.{Closes}
 use Rattle.zre_node.specs.declared.effects.Effects.{Effects}
-use Rattle.zre_values.proofs.Answered.{on_ok}
+use Rattle.zre_values.proofs.AnswersThatAreOk.{on_ok}
 use Rattle.zre_node.proofs.MarksAfterMarks.{did_by}
 use Rattle.zre_node.proofs.ConnectionsComeAndGo.{closed}
 use Rattle.zre_node.proofs.tables.Tables.close.Goals as goal

@@ -1,5 +1,5 @@
 use Rattle.std.proofs.Common.{sym}
-use Rattle.zre_journal.proofs.ProperKept.{run_known}
+use Rattle.zre_journal.proofs.ProperAfterMarks.{run_known}
 use Rattle.zre_node.proofs.RowsOfKnownPeers.{nearly}
 use Rattle.zre_node.proofs.tables.Tables.end_run.Goals as goal
 

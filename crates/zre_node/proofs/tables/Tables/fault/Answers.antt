@@ -5,8 +5,8 @@ use Rattle.zre_peer.specs.declared.causes.CloseWhy.TheVariants as close
 use Rattle.zre_journal.specs.Chronicle.{Closes}
 use Rattle.zre_journal.specs.Connections.{runs}
 use Rattle.zre_journal.specs.Arrivals.{end_of_run}
-use Rattle.zre_journal.proofs.Idle.{idle_then}
-use Rattle.zre_values.proofs.Answered.{on_ok}
+use Rattle.zre_journal.proofs.IdleConnections.{idle_then}
+use Rattle.zre_values.proofs.AnswersThatAreOk.{on_ok}
 use Rattle.zre_node.proofs.FaultsOnConnections.{dead_places, fault_live, stands_not, stands_so}
 use Rattle.zre_node.proofs.MarksAfterMarks.{did_as, did_then, idle_did}
 use Rattle.zre_node.proofs.FirstMessages.{live_open}

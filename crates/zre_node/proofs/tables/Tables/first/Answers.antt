@@ -7,7 +7,7 @@ use Rattle.zre_journal.specs.Chronicle.{Starts, after}
 use Rattle.zre_journal.specs.Pushes.{birth}
 use Rattle.zre_journal.specs.Peers.{births, life}
 use Rattle.zre_journal.specs.Told.{told}
-use Rattle.zre_journal.proofs.ProperKept.{newborn}
+use Rattle.zre_journal.proofs.ProperAfterMarks.{newborn}
 use Rattle.zre_node.specs.Stands.{Holds}
 use Rattle.zre_node.proofs.MarksAfterMarks.{did_as, did_by}
 use Rattle.zre_node.proofs.FirstMessages.{first_starts, known_starts, new_starts, nowhere_starts, newborn_known, its_own_life, starts_tell, new_did, untold_did, on_did_as}

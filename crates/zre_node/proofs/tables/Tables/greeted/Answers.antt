@@ -2,7 +2,7 @@ use Rattle.std.proofs.Common.{ℕ, List, ◌++◌, [], ◌∷◌, refl, sym, ap,
 use Rattle.zre_outside.specs.declared.act.Act.TheVariants as act
 use Rattle.zre_journal.specs.Chronicle.{Greets}
 use Rattle.zre_node.specs.declared.effects.Effects.{Effects}
-use Rattle.zre_values.proofs.Answered.{on_ok}
+use Rattle.zre_values.proofs.AnswersThatAreOk.{on_ok}
 use Rattle.zre_node.proofs.MarksAfterMarks.{did_by}
 use Rattle.zre_node.proofs.ReadyOnConnections.{greets}
 use Rattle.zre_node.proofs.tables.Tables.greeted.Goals as goal

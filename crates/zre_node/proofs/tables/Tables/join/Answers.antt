@@ -6,7 +6,7 @@ use Rattle.zre_journal.specs.Pushes.{push_all}
 use Rattle.zre_journal.specs.Peers.{lives}
 use Rattle.zre_node.specs.declared.tables.Tables.{Tables}
 use Rattle.zre_node.proofs.MarksOfCommands.{next_is, had_room, joined, joins, joins_tell}
-use Rattle.zre_values.proofs.Answered.{on_ok}
+use Rattle.zre_values.proofs.AnswersThatAreOk.{on_ok}
 use Rattle.zre_node.proofs.MarksAfterMarks.{did_as}
 use Rattle.zre_node.proofs.tables.Tables.join.Goals as goal
 

@@ -7,10 +7,10 @@ use Rattle.zre_peer.specs.declared.peer_run.RunFault.TheVariants as fault
 use Rattle.zre_journal.specs.Chronicle.{Counts}
 use Rattle.zre_journal.specs.Pushes.{push}
 use Rattle.zre_journal.specs.Peers.{counted}
-use Rattle.zre_journal.proofs.ProperKept.{run_known}
+use Rattle.zre_journal.proofs.ProperAfterMarks.{run_known}
 use Rattle.zre_node.specs.Stands.{IsPeer, is_ping}
 use Rattle.zre_node.proofs.LaterMessages.{its, some_counted, row_runs, counts, its_events, counted_did, counts_it, refused_by}
-use Rattle.zre_values.proofs.Answered.{on_ok}
+use Rattle.zre_values.proofs.AnswersThatAreOk.{on_ok}
 use Rattle.zre_node.proofs.MarksAfterMarks.{did_as, did_then}
 use Rattle.zre_node.proofs.RowsOfKnownPeers.{known_row}
 use Rattle.zre_node.proofs.tables.Tables.later.Goals as goal

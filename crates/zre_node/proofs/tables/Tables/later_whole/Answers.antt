@@ -2,7 +2,7 @@ use Rattle.std.proofs.Common.{subst}
 use Rattle.std.specs.Prelude.{OnOk}
 use Rattle.zre_msg.specs.declared.message.Message.{Message}
 use Rattle.zre_journal.specs.Arrivals.{at_later}
-use Rattle.zre_journal.proofs.ProperKept.{run_known}
+use Rattle.zre_journal.proofs.ProperAfterMarks.{run_known}
 use Rattle.zre_node.specs.Stands.{Did}
 use Rattle.zre_node.proofs.RowsOfKnownPeers.{nearly}
 use Rattle.zre_node.proofs.tables.Tables.later_whole.Goals as goal

@@ -7,7 +7,7 @@ use Rattle.zre_journal.specs.Links.{groups}
 use Rattle.zre_journal.specs.Peers.{lives}
 use Rattle.zre_node.specs.declared.tables.Tables.{Tables}
 use Rattle.zre_node.proofs.MarksOfCommands.{next_is, had_group, not_joined, left, no_group, leaves, leaves_tell}
-use Rattle.zre_values.proofs.Answered.{on_ok}
+use Rattle.zre_values.proofs.AnswersThatAreOk.{on_ok}
 use Rattle.zre_node.proofs.MarksAfterMarks.{did_as}
 use Rattle.zre_node.proofs.FirstMessages.{on_did_as}
 use Rattle.zre_node.proofs.tables.Tables.leave.Goals as goal

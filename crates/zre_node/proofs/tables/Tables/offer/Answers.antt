@@ -2,7 +2,7 @@ use Rattle.std.proofs.Common.{List, [], ◌≡◌, ◌++◌, ap, sym, ◌∙◌,
 use Rattle.std.proofs.lemmas.List.{append-nil, nil_from_length}
 use Rattle.zre_outside.specs.declared.act.Act.{Act}
 use Rattle.zre_journal.specs.Peers.{lives}
-use Rattle.zre_values.proofs.Answered.{on_ok}
+use Rattle.zre_values.proofs.AnswersThatAreOk.{on_ok}
 use Rattle.zre_node.specs.Offers.{offered}
 use Rattle.zre_node.proofs.OffersOfRows.{among, none_offered}
 use Rattle.zre_node.proofs.tables.Tables.offer.Goals as goal

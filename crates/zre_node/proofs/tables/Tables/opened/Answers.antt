@@ -4,7 +4,7 @@ use Rattle.zre_journal.specs.Chronicle.{Opens, TurnsAway}
 use Rattle.zre_outside.specs.declared.act.Act.TheVariants as act
 use Rattle.zre_tables.specs.declared.connection.Connection.{Connection}
 use Rattle.zre_node.specs.declared.effects.Effects.{Effects}
-use Rattle.zre_values.proofs.Answered.{on_ok}
+use Rattle.zre_values.proofs.AnswersThatAreOk.{on_ok}
 use Rattle.zre_node.proofs.MarksAfterMarks.{did_as, did_by}
 use Rattle.zre_node.proofs.ConnectionsComeAndGo.{open_count, opens, turns_away, too_many, has_room}
 use Rattle.zre_node.proofs.tables.Tables.opened.Goals as goal

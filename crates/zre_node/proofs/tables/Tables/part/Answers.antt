@@ -2,7 +2,7 @@ use Rattle.std.proofs.Common.{ap, ◌∙◌, ◌++◌}
 use Rattle.zre_journal.specs.Peers.{counted}
 use Rattle.zre_journal.specs.Done.{close_link}
 use Rattle.zre_node.specs.declared.effects.Effects.{Effects}
-use Rattle.zre_values.proofs.Answered.{on_ok}
+use Rattle.zre_values.proofs.AnswersThatAreOk.{on_ok}
 use Rattle.zre_node.proofs.EndsOfPeers.{entered, with_run, without_run}
 use Rattle.zre_node.proofs.tables.Tables.part.Goals as goal
 use Rattle.zre_node.proofs.tables.Tables.part.Goals.{in-Some+in_ok-exit, in_default}

@@ -2,7 +2,7 @@ use Rattle.std.proofs.Common.{ℕ, ◌<◌, ◌≤◌, ◌∙◌, sym, subst}
 use Rattle.zre_journal.specs.Peers.{Life, lives, life_of}
 use Rattle.zre_node.specs.Stands.{IsPeer}
 use Rattle.zre_node.proofs.MarksOfDatagrams.{link_found, its_life, no_life}
-use Rattle.zre_tables.proofs.Entries.{as_many}
+use Rattle.zre_tables.proofs.EntriesOfMaps.{as_many}
 use Rattle.zre_node.proofs.FirstMessages.{no_endpoint, full}
 use Rattle.zre_node.proofs.tables.Tables.place.Goals as goal
 

@@ -5,7 +5,7 @@ use Rattle.zre_journal.specs.Links.{line, is_linked, replies, taken}
 use Rattle.zre_journal.specs.Pushes.{push}
 use Rattle.zre_tables.specs.declared.peer.Peer.{Peer}
 use Rattle.zre_node.specs.Stands.{Holds, IsPeer}
-use Rattle.zre_values.proofs.Answered.{on_ok}
+use Rattle.zre_values.proofs.AnswersThatAreOk.{on_ok}
 use Rattle.zre_node.proofs.MarksAfterMarks.{did_as, did_then}
 use Rattle.zre_node.proofs.RowsOfKnownPeers.{nearly, known_row}
 use Rattle.zre_node.proofs.BodyOnOneLink.{row_link, puts_it, fits, is_slow, put_did}

@@ -5,7 +5,7 @@ use Rattle.zre_journal.specs.Chronicle.{in_turn}
 use Rattle.zre_journal.specs.Arrivals.{at_place}
 use Rattle.zre_journal.proofs.JoinedEntries.{in_turn-append}
 use Rattle.zre_node.specs.Stands.{Did}
-use Rattle.zre_values.proofs.Answered.{on_ok}
+use Rattle.zre_values.proofs.AnswersThatAreOk.{on_ok}
 use Rattle.zre_node.proofs.MarksAfterMarks.{did_as, did_then}
 use Rattle.zre_node.proofs.tables.Tables.said.Goals as goal
 

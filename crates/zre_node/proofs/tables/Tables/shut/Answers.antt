@@ -2,7 +2,7 @@ use Rattle.std.proofs.Common.{[], ◌∷◌, refl, sym, ◌∙◌}
 use Rattle.zre_journal.specs.Chronicle.{IsShut}
 use Rattle.zre_journal.specs.Connections.{runs}
 use Rattle.zre_journal.specs.Arrivals.{end_of_run}
-use Rattle.zre_journal.proofs.Idle.{idle_then}
+use Rattle.zre_journal.proofs.IdleConnections.{idle_then}
 use Rattle.zre_peer.specs.declared.causes.Cause.TheVariants as cause
 use Rattle.zre_node.proofs.EndsOfPeers.{some_row}
 use Rattle.zre_node.proofs.MarksAfterMarks.{did_as, did_then, silent_did, idle_did}

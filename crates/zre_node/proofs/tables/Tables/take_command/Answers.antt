@@ -4,7 +4,7 @@ use Rattle.zre_journal.specs.Chronicle.{Comes}
 use Rattle.zre_journal.specs.Happens.{at_input}
 use Rattle.zre_node.specs.Stands.{Did}
 use Rattle.zre_node.proofs.MarksOfCommands.{command_quiet}
-use Rattle.zre_values.proofs.Answered.{on_ok}
+use Rattle.zre_values.proofs.AnswersThatAreOk.{on_ok}
 use Rattle.zre_node.proofs.WholeEntries.{took}
 use Rattle.zre_node.proofs.tables.Tables.take_command.Goals as goal
 

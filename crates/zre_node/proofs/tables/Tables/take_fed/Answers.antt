@@ -4,7 +4,7 @@ use Rattle.zre_journal.specs.Arrivals.{at_places}
 use Rattle.zre_journal.specs.Chronicle.{Comes}
 use Rattle.zre_journal.specs.Happens.{at_input, with_entry}
 use Rattle.zre_journal.specs.Held.{kept}
-use Rattle.zre_values.proofs.Answered.{on_ok}
+use Rattle.zre_values.proofs.AnswersThatAreOk.{on_ok}
 use Rattle.zre_node.specs.Brings.{octets_of}
 use Rattle.zre_node.specs.Kinds.{piece_entry}
 use Rattle.zre_node.specs.Said.{said_in}

@@ -5,7 +5,7 @@ use Rattle.zre_journal.specs.Happens.{at_input}
 use Rattle.zre_node.specs.Kinds.{is_incoming}
 use Rattle.zre_node.specs.Links.{Notes}
 use Rattle.zre_node.specs.Stands.{Did}
-use Rattle.zre_values.proofs.Answered.{on_ok}
+use Rattle.zre_values.proofs.AnswersThatAreOk.{on_ok}
 use Rattle.zre_node.proofs.WholeEntries.{quiet_incoming, took_noted}
 use Rattle.zre_node.proofs.tables.Tables.take_incoming.Goals as goal
 

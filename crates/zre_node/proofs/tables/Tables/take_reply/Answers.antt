@@ -5,7 +5,7 @@ use Rattle.zre_journal.specs.Held.{kept}
 use Rattle.zre_journal.specs.LinkEntries.{end_by}
 use Rattle.zre_node.specs.Links.{pongs}
 use Rattle.zre_node.specs.declared.effects.Effects.{Effects}
-use Rattle.zre_values.proofs.Answered.{on_ok}
+use Rattle.zre_values.proofs.AnswersThatAreOk.{on_ok}
 use Rattle.zre_node.proofs.EffectsOnLinks.{noted, reply_marks, reply_names}
 use Rattle.zre_node.proofs.LooksOfEntries.{less_looks, entry_lowers, err_looks}
 use Rattle.zre_node.proofs.MarksAfterMarks.{did_as, did_then}

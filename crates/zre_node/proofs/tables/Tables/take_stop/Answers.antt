@@ -1,4 +1,4 @@
-use Rattle.zre_values.proofs.Answered.{on_ok}
+use Rattle.zre_values.proofs.AnswersThatAreOk.{on_ok}
 use Rattle.zre_node.proofs.WholeEntries.{ending, took_stop}
 use Rattle.zre_node.proofs.tables.Tables.take_stop.Goals as goal
 

@@ -1,5 +1,5 @@
 use Rattle.std.proofs.Common.{ℕ, List, sym, ap, ◌∙◌, subst}
-use Rattle.zre_values.proofs.Answered.{on_ok}
+use Rattle.zre_values.proofs.AnswersThatAreOk.{on_ok}
 use Rattle.zre_tables.specs.declared.connection.Connection.{Connection}
 use Rattle.zre_tables.specs.declared.peer.Peer.{Peer}
 use Rattle.zre_tables.specs.Rows.{numbers_of}

@@ -2,7 +2,7 @@ use Rattle.std.proofs.Common.{ℕ, IsSome, sym, ap, ◌∙◌, subst, refl}
 use Rattle.zre_msg.specs.declared.message.Body.TheVariants as body
 use Rattle.zre_journal.specs.Pushes.{push}
 use Rattle.zre_journal.specs.Peers.{life, life_of}
-use Rattle.zre_journal.proofs.Known.{known_of}
+use Rattle.zre_journal.proofs.KnownPeers.{known_of}
 use Rattle.zre_node.proofs.MarksOfCommands.{whispers}
 use Rattle.zre_node.proofs.FirstMessages.{on_did_as}
 use Rattle.zre_node.proofs.tables.Tables.whisper.Goals as goal

@@ -3,7 +3,7 @@ use Rattle.std.proofs.lemmas.Result.{IfOk-weaker}
 use Rattle.std.specs.Option.{option_and_then}
 use Rattle.zre_values.specs.declared.memory.OutOfMemory.{OutOfMemory}
 use Rattle.zre_zmtp.specs.Looks.{Looks, IsPaid, IsPaidOnRefusal}
-use Rattle.zre_mailbox.specs.Conn.{ConnHearing, kept_of}
+use Rattle.zre_mailbox.specs.Conn.{ConnHearing, held_of}
 use Rattle.zre_tables.specs.Holding.{reader_at}
 use Rattle.zre_tables.specs.declared.connection.Connection.{Connection}
 use Rattle.zre_tables.proofs.SumsAgreeWithRows.{some_is}
@@ -64,7 +64,7 @@ returns-clause-looks g c = λ own o at.
     let row = c.index_mut.result.now in
     let it = lies es c.args.conn c.in-Some.at row c.self.invariant.0 c.in-Some.ensures c.index_mut.ensures.value in
     let here = some_is _ _ (sym c.in-Some-conn.is ∙ ap (option_and_then (λ (k : Connection). k.conn)) (sym it.there_is) ∙ ap (reader_at c.args.conn) c.self.view_is ∙ at) in
-    looks_as c.read.result _ _ _ _ _ _ _ (ap kept_of here) (IfOk-weaker c.read.result _ _ (λ fault a. ap kept_of a.0) (c.read.ensures.heard own o here)) (c.read.ensures.looks own o here)
+    looks_as c.read.result _ _ _ _ _ _ _ (ap held_of here) (IfOk-weaker c.read.result _ _ (λ fault a. ap held_of a.0) (c.read.ensures.heard own o here)) (c.read.ensures.looks own o here)
 
 pub returns-clause-no_reader : goal.returns-clause-no_reader
 returns-clause-no_reader g c = λ none.

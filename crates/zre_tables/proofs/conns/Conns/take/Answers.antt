@@ -3,7 +3,7 @@ use Rattle.std.proofs.lemmas.Result.{IfOk-weaker}
 use Rattle.std.specs.Option.{option_and_then}
 use Rattle.zre_values.specs.declared.memory.OutOfMemory.{OutOfMemory}
 use Rattle.zre_zmtp.specs.Looks.{Looks, IsPaid, IsPaidOnRefusal}
-use Rattle.zre_mailbox.specs.Conn.{ConnHearing, kept_of}
+use Rattle.zre_mailbox.specs.Conn.{ConnHearing, held_of}
 use Rattle.zre_tables.specs.Holding.{reader_at}
 use Rattle.zre_tables.specs.declared.connection.Connection.{Connection}
 use Rattle.zre_tables.proofs.SumsAgreeWithRows.{some_is}

@@ -1,5 +1,5 @@
 use Rattle.std.proofs.Common.{◌∙◌, Option, Some, sym, ap, subst}
-use Rattle.zre_values.proofs.Answered.{on_ok}
+use Rattle.zre_values.proofs.AnswersThatAreOk.{on_ok}
 use Rattle.zre_tables.specs.Runs.{HasRun}
 use Rattle.zre_tables.specs.declared.peer.Peer.{Peer}
 use Rattle.zre_tables.specs.declared.peer.CarriedRun.{CarriedRun}
