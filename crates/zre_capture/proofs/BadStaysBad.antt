@@ -10,7 +10,7 @@ use Rattle.zre_capture.specs.Journal.{lines_in, line_of, bad_line, next, bad_fro
 use Rattle.zre_capture.specs.declared.fault.BadCapture.{BadCapture}
 use Rattle.zre_capture.specs.declared.format.Format.{Format}
 use Rattle.zre_capture.specs.declared.line_start.LineStart.{LineStart}
-use Rattle.zre_capture.proofs.Lines.{some_lines}
+use Rattle.zre_capture.proofs.LineByLine.{some_lines}
 
 -- the lines of a text that begins another: all but the last are lines of that one too, and the last begins one
 abbrev Begins : List (List ℕ) → List (List ℕ) → Type 0

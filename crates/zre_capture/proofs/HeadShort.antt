@@ -17,7 +17,7 @@ use Rattle.zre_capture.specs.Heads.{head_text, AreSettings, IsShortHead}
 use Rattle.zre_capture.specs.declared.format.Format.{Format}
 use Rattle.zre_capture.specs.declared.format.Format.TheVariants.{First, Second}
 use Rattle.zre_values.specs.declared.settings.Settings.{Settings}
-use Rattle.zre_capture.proofs.Heads.{valid}
+use Rattle.zre_capture.proofs.HeadSettings.{valid}
 
 octet-short : (plain : Bool) (a b c d : ℕ) → length (cond plain (a ∷ []) (b ∷ c ∷ d ∷ [])) ≤ 3
 octet-short true a b c d = omega arith

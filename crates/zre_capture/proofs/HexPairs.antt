@@ -13,7 +13,7 @@ use Rattle.hex.proofs.HexLemmas.{length-encode_with, decode_of-even}
 use Rattle.hex.proofs.Pairs.{cons_byte, decode_pairs-ok_pair}
 use Rattle.zre_capture.specs.Lines.{hex_text}
 use Rattle.zre_capture.specs.Values.{is_lower_digit, hex_of, decoded}
-use Rattle.zre_capture.proofs.Spelled.{spelled-one, some_is, text_or_tested, hex_of-some, hex_of-text}
+use Rattle.zre_capture.proofs.FieldTexts.{spelled-one, some_is, text_or_tested, hex_of-some, hex_of-text}
 
 -- the value of a digit, and the octets of pairs of digits
 abbrev pub value : ℕ → ℕ

@@ -9,8 +9,8 @@ use Rattle.zre_capture.specs.Lines.{difference, reading_text, text}
 use Rattle.zre_capture.specs.Values.{hex_of}
 use Rattle.zre_capture.specs.Reading.{entry_of}
 use Rattle.zre_capture.proofs.WrittenIsRead.{entry_of-text}
-use Rattle.zre_capture.proofs.Differences.{difference-up}
-use Rattle.zre_capture.proofs.Spelled.{hex_of-some}
+use Rattle.zre_capture.proofs.ReadingDifferences.{difference-up}
+use Rattle.zre_capture.proofs.FieldTexts.{hex_of-some}
 
 -- one more of nineteen digits at the most
 pub record DigitFits (n i : ℕ) : Type 0 where

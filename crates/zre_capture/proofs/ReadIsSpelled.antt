@@ -24,9 +24,9 @@ use Rattle.zre_capture.specs.declared.format.Format.{Format}
 use Rattle.zre_capture.specs.declared.format.Format.TheVariants.{First, Second}
 use Rattle.zre_capture.specs.Values.{first_of, input_words, command_words, input_word_of, command_word_of, number_of, reading_of, hex_of, address_of, id_of, group_of, frames_of}
 use Rattle.zre_capture.specs.Reading.{fields_in, by_word, alone, one_number, one_group, two_numbers, number_and_hex, address_and_hex, id_and_frames, group_and_frames, command_from, command_in, input_from, input_in, entry_in, entry_of}
-use Rattle.zre_capture.proofs.Spelled.{number_of-some, hex_of-some, address_of-some, id_of-some, group_of-some}
-use Rattle.zre_capture.proofs.Differences.{reading_after-some}
-use Rattle.zre_capture.proofs.Members.{frames_of-some}
+use Rattle.zre_capture.proofs.FieldTexts.{number_of-some, hex_of-some, address_of-some, id_of-some, group_of-some}
+use Rattle.zre_capture.proofs.ReadingDifferences.{reading_after-some}
+use Rattle.zre_capture.proofs.QuotedMembers.{frames_of-some}
 
 -- the word that was found is spelled so
 found_word : {W : Type 0} (text : W → List ℕ) (ws : List W) (field : List ℕ) (w : W) → first_of text ws field ≡ Some w → text w ≡ field

@@ -13,10 +13,10 @@ use Rattle.zre_capture.specs.declared.format.Format.{Format}
 use Rattle.zre_capture.specs.declared.format.Format.TheVariants.{First, Second}
 use Rattle.zre_capture.specs.declared.line_start.LineStart.{LineStart}
 use Rattle.zre_values.specs.declared.settings.Settings.{Settings}
-use Rattle.zre_capture.proofs.Parts.{between-cut, lacks-from_any}
-use Rattle.zre_capture.proofs.Lines.{entries-good, bad-good, end-good, some_lines, head-first}
-use Rattle.zre_capture.proofs.Heads.{head-visible, settings_of-head}
-use Rattle.zre_capture.proofs.Visible.{no_line_feed}
+use Rattle.zre_capture.proofs.TextParts.{between-cut, lacks-from_any}
+use Rattle.zre_capture.proofs.LineByLine.{entries-good, bad-good, end-good, some_lines, head-first}
+use Rattle.zre_capture.proofs.HeadSettings.{head-visible, settings_of-head}
+use Rattle.zre_capture.proofs.VisibleFields.{no_line_feed}
 use Rattle.zre_capture.proofs.WrittenIsRead.{entry_of-text, fields-visible}
 
 -- ---- the head

@@ -19,10 +19,10 @@ use Rattle.zre_capture.specs.declared.format.Format.{Format}
 use Rattle.zre_capture.specs.declared.format.Format.TheVariants.{First, Second}
 use Rattle.zre_capture.specs.Values.{reading_of, input_word_of, command_word_of}
 use Rattle.zre_capture.specs.Reading.{one_number, one_group, two_numbers, number_and_hex, address_and_hex, id_and_frames, group_and_frames, command_from, command_in, input_from, input_in, entry_in, entry_of}
-use Rattle.zre_capture.proofs.Spelled.{number_of-decimal, hex_of-text, address_of-text, id_of-text, group_of-quoted}
-use Rattle.zre_capture.proofs.Differences.{reading_after-difference, difference-visible}
-use Rattle.zre_capture.proofs.Members.{frames_of-list}
-use Rattle.zre_capture.proofs.Visible.{visible, decimal-visible, address-visible, hex-visible, id-visible, quoted-visible, list-visible, fields-joined}
+use Rattle.zre_capture.proofs.FieldTexts.{number_of-decimal, hex_of-text, address_of-text, id_of-text, group_of-quoted}
+use Rattle.zre_capture.proofs.ReadingDifferences.{reading_after-difference, difference-visible}
+use Rattle.zre_capture.proofs.QuotedMembers.{frames_of-list}
+use Rattle.zre_capture.proofs.VisibleFields.{visible, decimal-visible, address-visible, hex-visible, id-visible, quoted-visible, list-visible, fields-joined}
 
 again_command_word : (w : CommandWord) → command_word_of (command_word_text w) ≡ Some w
 unfolding command_word_of

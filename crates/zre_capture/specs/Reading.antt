@@ -163,8 +163,8 @@ settings_with plain name headers = do
 
 -- the settings of the fields of a head
 unfoldable pub settings_in : List (List ℕ) → Option Settings
-settings_in (mark ∷ number ∷ id ∷ name ∷ host ∷ port ∷ evasive ∷ expired ∷ headers ∷ []) =
-    if bytes_eq mark (codes "zre-capture") && bytes_eq number (codes "2") then (plain_with id host port evasive expired
+settings_in (magic ∷ number ∷ id ∷ name ∷ host ∷ port ∷ evasive ∷ expired ∷ headers ∷ []) =
+    if bytes_eq magic (codes "zre-capture") && bytes_eq number (codes "2") then (plain_with id host port evasive expired
     >>= λ plain. settings_with plain name headers) else None
 settings_in _ = None
 

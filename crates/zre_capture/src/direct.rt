@@ -88,7 +88,7 @@ pub(crate) fn read_direct(
     ensures read { IfOk result (λ at. MatchOption at (out.new ≡ out.old)
         (λ at. (e : EntryValue) × (entry_of format before text.now ≡ Some e) × (out.new ≡ out.old ++ e ∷ [])
         × (at ≡ e.at))) }
-    ensures kept { OnErr result (out.new ≡ out.old) }
+    ensures unchanged { OnErr result (out.new ≡ out.old) }
 {
     let Some((at, rest)) = first_reading(format, before, text) else {
         return Ok(None);

@@ -6,7 +6,7 @@ ghost use Rattle.zre_capture.specs.Draws.{drawn, upper_half, after_draws, octets
 use zre_values::FewOctets;
 
 /// As many octets as a message of the exercise has at most.
-pub(crate) const ROOM: usize = 48;
+pub(crate) const MOST_OCTETS: usize = 48;
 
 const FACTOR: u64 = 6364136223846793005;
 
@@ -31,8 +31,8 @@ pub(crate) fn upper_half(x: u64) -> u32
 
 /// Appends what so many draws give, and tells where the draws stand after them.
 #[inline(always)]
-pub(crate) fn push_drawn(out: &mut FewOctets<ROOM>, count: u8, from: u64) -> u64
-    requires { length out.old + 4 * count ≤ ROOM }
+pub(crate) fn push_drawn(out: &mut FewOctets<MOST_OCTETS>, count: u8, from: u64) -> u64
+    requires { length out.old + 4 * count ≤ MOST_OCTETS }
     ensures after { result ≡ after_draws count from }
     ensures octets { out.new ≡ out.old ++ octets_drawn count from }
 {

@@ -3,7 +3,7 @@
 ghost use Rattle.std.specs.Prelude.{◌≡◌, ◌≢◌, ◌≤◌, ◌+◌, ◌%◌, ◌∷◌, length, IfOk, OnErr, MatchOption};
 ghost use Rattle.zre_capture.specs.declared.stage.ExerciseStage.TheVariants.{Messages};
 
-use crate::draws::{ROOM, drawn, upper_half};
+use crate::draws::{MOST_OCTETS, drawn, upper_half};
 use crate::introduction::{heard, introduced, opened};
 use crate::stage::ExerciseStage;
 use crate::talk::{cut_by, spell};
@@ -24,7 +24,7 @@ pub struct Exercise {
     /// The number of the next message.
     message: u32,
     /// The octets of the message that was spelled last.
-    spelled: FewOctets<ROOM>,
+    spelled: FewOctets<MOST_OCTETS>,
     /// How many of them come in the first piece.
     cut: usize,
     ghost some: { 1 ≤ peers },

@@ -85,7 +85,7 @@ pub fn write_head2(alloc: Global, settings: &Settings) -> Result<Octets, OutOfMe
 // The fields of a head of format 2.
 #[derive(Clone, Copy)]
 struct HeadFields<'a> {
-    mark: &'a [u8],
+    magic: &'a [u8],
     number: &'a [u8],
     id: &'a [u8],
     name: &'a [u8],
@@ -98,11 +98,11 @@ struct HeadFields<'a> {
 
 fn head_fields(text: &[u8]) -> Option<HeadFields<'_>>
     ensures { MatchOption result (settings_in (fields_in text.now) ≡ None)
-        (λ h. fields_in text.now ≡ h.mark.now ∷ h.number.now ∷ h.id.now ∷ h.name.now ∷ h.host.now ∷ h.port.now
+        (λ h. fields_in text.now ≡ h.magic.now ∷ h.number.now ∷ h.id.now ∷ h.name.now ∷ h.host.now ∷ h.port.now
         ∷ h.evasive.now ∷ h.expired.now ∷ h.headers.now ∷ []) }
 {
-    let (mark, after_mark) = first_field(text)?;
-    let (number, after_number) = first_field(after_mark)?;
+    let (magic, after_magic) = first_field(text)?;
+    let (number, after_number) = first_field(after_magic)?;
     let (id, after_id) = first_field(after_number)?;
     let (name, after_name) = first_field(after_id)?;
     let (host, after_host) = first_field(after_name)?;
@@ -111,7 +111,7 @@ fn head_fields(text: &[u8]) -> Option<HeadFields<'_>>
     let (expired, after_expired) = first_field(after_evasive)?;
     let headers = one_part(after_expired, b' ')?;
     Some(HeadFields {
-        mark,
+        magic,
         number,
         id,
         name,
@@ -134,11 +134,11 @@ pub(crate) struct PlainSettings {
 }
 
 impl HeadFields<'_> {
-    fn is_marked(&self) -> bool
-        ensures { result ≡ (bytes_eq self.now.mark.now (codes "zre-capture")
+    fn has_magic(&self) -> bool
+        ensures { result ≡ (bytes_eq self.now.magic.now (codes "zre-capture")
             && bytes_eq self.now.number.now (codes "2")) }
     {
-        self.mark == b"zre-capture".as_slice() && self.number == b"2".as_slice()
+        self.magic == b"zre-capture".as_slice() && self.number == b"2".as_slice()
     }
 
     #[tactic(auto, unfolding(crate::specs::Reading::plain_with))]
@@ -190,7 +190,7 @@ pub(crate) fn settings(alloc: Global, text: &[u8]) -> Result<Option<Settings>, O
     ensures { IfOk result (λ found. found ≡ settings_of text.now) }
 {
     let fields = found!(head_fields(text));
-    if !fields.is_marked() {
+    if !fields.has_magic() {
         return Ok(None);
     }
     let plain = found!(fields.read_plain());

@@ -26,7 +26,7 @@ fn is_header(member: &[u8]) -> bool
 }
 
 // Whether headers stand between commas.
-#[tactic(auto, using(crate::proofs::Listing::some_headers, crate::proofs::Listing::none_in))]
+#[tactic(auto, using(crate::proofs::HeaderLists::some_headers, crate::proofs::HeaderLists::none_in))]
 fn are_members(field: &[u8]) -> bool
     ensures { result ≡ is_some (headers_in (between 44 field.now)) }
 {
@@ -119,7 +119,7 @@ fn header(alloc: Global, member: &[u8]) -> Result<Option<(Octets, Octets)>, OutO
 }
 
 // Reads one more.
-#[tactic(auto, using(crate::proofs::Listing::header_pushed, crate::proofs::Listing::no_header_pushed))]
+#[tactic(auto, using(crate::proofs::HeaderLists::header_pushed, crate::proofs::HeaderLists::no_header_pushed))]
 fn push_header(alloc: Global, headers: &mut Pairs, member: &[u8]) -> Result<bool, OutOfMemory>
     ensures { (more : List (List ℕ)) → IfOk result (λ is. with_more headers.old (headers_in (member.now ∷ more))
         ≡ (if is then with_more headers.new (headers_in more) else None)) }
@@ -132,7 +132,7 @@ fn push_header(alloc: Global, headers: &mut Pairs, member: &[u8]) -> Result<bool
 }
 
 // The headers between commas.
-#[tactic(auto, using(crate::proofs::Listing::with_none, crate::proofs::Listing::all_read))]
+#[tactic(auto, using(crate::proofs::HeaderLists::with_none, crate::proofs::HeaderLists::all_read))]
 fn members(alloc: Global, field: &[u8]) -> Result<Option<Pairs>, OutOfMemory>
     ensures { IfOk result (λ found. found ≡ headers_in (between 44 field.now)) }
 {

@@ -100,29 +100,29 @@ fn pair(digits: &[u8], i: usize) -> u16
 
 // The octets of pairs of digits. Whether all are digits: the loops go on after another octet, which costs less than to
 // stop at it.
-fn decode(room: &mut [u8], digits: &[u8]) -> bool
-    requires two { length digits.now ≡ 2 * length room.old }
-    requires some { 0 < length room.old }
-    ensures { (if result then Some room.new else None) ≡ hex_of digits.now }
+fn decode(buffer: &mut [u8], digits: &[u8]) -> bool
+    requires two { length digits.now ≡ 2 * length buffer.old }
+    requires some { 0 < length buffer.old }
+    ensures { (if result then Some buffer.new else None) ≡ hex_of digits.now }
 {
     let mut all: u16 = 0;
     let mut i: usize = 0;
-    'fours: while 4 <= room.len() - i {
+    'fours: while 4 <= buffer.len() - i {
         let first = pair(digits, i);
         let second = pair(digits, i + 1);
         let third = pair(digits, i + 2);
         let fourth = pair(digits, i + 3);
         all = all | first | second | third | fourth;
-        room[i] = (first % 256) as u8;
-        room[i + 1] = (second % 256) as u8;
-        room[i + 2] = (third % 256) as u8;
-        room[i + 3] = (fourth % 256) as u8;
+        buffer[i] = (first % 256) as u8;
+        buffer[i + 1] = (second % 256) as u8;
+        buffer[i + 2] = (third % 256) as u8;
+        buffer[i + 3] = (fourth % 256) as u8;
         i += 4;
     }
-    'pairs: while i < room.len() {
+    'pairs: while i < buffer.len() {
         let octet = pair(digits, i);
         all |= octet;
-        room[i] = (octet % 256) as u8;
+        buffer[i] = (octet % 256) as u8;
         i += 1;
     }
     all < 256
@@ -138,8 +138,8 @@ fn decode_few(alloc: Global, digits: &[u8]) -> Result<Option<Octets>, OutOfMemor
     // What a call that is done gives.
     ensures { IfOk result (λ found. found ≡ hex_of digits.now) }
 {
-    let mut room = [0u8; FEW];
-    let octets = &mut room[..digits.len() / 2];
+    let mut buffer = [0u8; FEW];
+    let octets = &mut buffer[..digits.len() / 2];
     if !decode(octets, digits) {
         return Ok(None);
     }

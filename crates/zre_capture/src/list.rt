@@ -23,7 +23,7 @@ fn are_members(field: &[u8]) -> bool
 }
 
 /// Whether the field is a list of quoted frames. It takes no memory.
-#[tactic(auto, using(crate::proofs::Members::frames_test))]
+#[tactic(auto, using(crate::proofs::QuotedMembers::frames_test))]
 pub fn are_frames(field: &[u8]) -> bool
     ensures { result ≡ is_some (frames_of field.now) }
 {

@@ -41,7 +41,7 @@ fn long_column(place: LineStart, front: &[u8]) -> u64
     field::first_bad(place, front, false).unwrap_or(place.format.longest() as u64 + 1)
 }
 
-// Reads the head line. Whether it is one; the settings that it says are kept.
+// Reads the head line and stores the settings that it says. Tells whether it is a head.
 #[cold]
 #[inline(never)]
 fn read_head(
@@ -52,10 +52,10 @@ fn read_head(
 ) -> Result<bool, OutOfMemory>
     // What the head says.
     ensures head { IfOk result (λ is. is ≡ is_head format text.now) }
-    ensures told { IfOk result (λ is. OnTrue is (told.new ≡ option_or (settings_said format text.now) told.old)) }
-    ensures other { IfOk result (λ is. OnFalse is (told.new ≡ told.old)) }
-    // What is kept of it.
-    ensures kept { OnErr result (told.new ≡ told.old) }
+    ensures settings { IfOk result (λ is. OnTrue is (told.new ≡ option_or (settings_said format text.now) told.old)) }
+    ensures not_a_head { IfOk result (λ is. OnFalse is (told.new ≡ told.old)) }
+    // What an error leaves unchanged.
+    ensures settings_unchanged { OnErr result (told.new ≡ told.old) }
 {
     match format {
         Format::First => Ok(text == b"zre-capture 1".as_slice()),
@@ -81,7 +81,7 @@ fn read_entry(
         ((entry_of place.format place.before text.now ≡ None) × (out.new ≡ out.old))
         (λ at. (e : EntryValue) × (entry_of place.format place.before text.now ≡ Some e)
         × (out.new ≡ out.old ++ e ∷ []) × (at ≡ e.at))) }
-    ensures kept { OnErr result (out.new ≡ out.old) }
+    ensures unchanged { OnErr result (out.new ≡ out.old) }
 {
     match entry(alloc, place.format, place.before, text)? {
         Some(entry) => {
@@ -106,8 +106,8 @@ fn read_line(
         ((said place text.now ≡ None) × (out.new ≡ out.old) × (told.new ≡ told.old))
         (λ at. (es : List EntryValue) × (said place text.now ≡ Some es) × (out.new ≡ out.old ++ es)
         × (at ≡ last_reading place.before es) × (told.new ≡ told_after place text.now told.old))) }
-    ensures kept { OnErr result (out.new ≡ out.old) }
-    ensures kept_told { OnErr result (told.new ≡ told.old) }
+    ensures unchanged { OnErr result (out.new ≡ out.old) }
+    ensures settings_unchanged { OnErr result (told.new ≡ told.old) }
 {
     if place.line == 1 {
         let is_head = read_head(alloc, place.format, told, text)?;
@@ -141,16 +141,16 @@ fn read_whole(
     text: &[u8],
     out: &mut Entries,
 ) -> Result<u64, CaptureFault>
-    // What a call that is done gives.
+    // What a success gives.
     ensures ok { IfOk result (λ at. (es : List EntryValue) × (line_of place text.now ≡ Some es)
         × (out.new ≡ out.old ++ es) × (at ≡ last_reading place.before es)
         × (told.new ≡ told_after place text.now told.old)) }
-    // What a refusal tells, and what it leaves.
+    // What a refusal tells.
     ensures refused { IfErr result (λ e. Refuses e (λ b. (line_of place text.now ≡ None)
         × (b ≡ bad_line place text.now))) }
-    // What is kept.
-    ensures kept { OnErr result (out.new ≡ out.old) }
-    ensures kept_told { OnErr result (told.new ≡ told.old) }
+    // What an error leaves unchanged.
+    ensures unchanged { OnErr result (out.new ≡ out.old) }
+    ensures settings_unchanged { OnErr result (told.new ≡ told.old) }
 {
     let most = place.format.longest();
     if text.len() > most {
@@ -165,7 +165,7 @@ fn read_whole(
     }
 }
 
-// Keeps more octets of a line, unless it gets too long by them.
+// Stores more octets of a line that is not whole, unless the line gets too long.
 fn gather(left: &mut Octets, place: LineStart, text: &[u8]) -> Result<(), CaptureFault>
     requires { length left.old ≤ longest place.format }
     ensures ok { OnOk result ((left.new ≡ left.old ++ text.now)
@@ -173,12 +173,12 @@ fn gather(left: &mut Octets, place: LineStart, text: &[u8]) -> Result<(), Captur
     ensures refused { IfErr result (λ e. Refuses e (λ b. (longest place.format < length (left.old ++ text.now))
         × (b ≡ bad_line place (left.old ++ text.now)))) }
 {
-    let room = place.format.longest() - left.len();
-    if text.len() <= room {
+    let free = place.format.longest() - left.len();
+    if text.len() <= free {
         left.append(text)?;
         return Ok(());
     }
-    left.append(&text[..room + 1])?;
+    left.append(&text[..free + 1])?;
     Err(too_long(place, left.as_slice()))
 }
 
@@ -252,18 +252,18 @@ impl CaptureReader {
     // Reads the line of which these octets are the end. Gives the reading of its entry, or that before it.
     fn read_end(&mut self, text: &[u8], out: &mut Entries) -> Result<u64, CaptureFault>
         requires { Waits self.old }
-        // What a call that is done gives.
+        // What a success gives.
         ensures ok { IfOk result (λ at. (es : List EntryValue)
             × (line_of self.old.place (self.old.left ++ text.now) ≡ Some es) × (out.new ≡ out.old ++ es)
             × (at ≡ last_reading self.old.place.before es)
             × (self.new.told ≡ told_after self.old.place (self.old.left ++ text.now) self.old.told)) }
-        // What a refusal tells, and what it leaves.
+        // What a refusal tells.
         ensures refused { IfErr result (λ e. Refuses e (λ b.
             (line_of self.old.place (self.old.left ++ text.now) ≡ None)
             × (b ≡ bad_line self.old.place (self.old.left ++ text.now)))) }
-        // What is kept.
-        ensures kept { OnErr result (out.new ≡ out.old) }
-        ensures kept_told { OnErr result (self.new.told ≡ self.old.told) }
+        // What an error leaves unchanged.
+        ensures unchanged { OnErr result (out.new ≡ out.old) }
+        ensures settings_unchanged { OnErr result (self.new.told ≡ self.old.told) }
     {
         if self.left.is_empty() {
             return read_whole(self.alloc, self.place, &mut self.told, text, out);
@@ -281,17 +281,17 @@ impl CaptureReader {
     // Reads what a line feed ends.
     fn take_line(&mut self, text: &[u8], out: &mut Entries) -> Result<(), CaptureFault>
         requires { Waits self.old }
-        // What a call that is done gives.
+        // What a success gives.
         ensures ok { OnOk result ((es : List EntryValue)
             × (line_of self.old.place (self.old.left ++ text.now) ≡ Some es) × (out.new ≡ out.old ++ es)
             × (self.new ≡ after_line self.old text.now es)) }
-        // What a refusal tells, and what it leaves.
+        // What a refusal tells.
         ensures refused { IfErr result (λ e. Refuses e (λ b.
             (line_of self.old.place (self.old.left ++ text.now) ≡ None)
             × (b ≡ bad_line self.old.place (self.old.left ++ text.now)))) }
-        // What is kept.
-        ensures kept { OnErr result (out.new ≡ out.old) }
-        ensures kept_told { OnErr result (self.new.told ≡ self.old.told) }
+        // What an error leaves unchanged.
+        ensures unchanged { OnErr result (out.new ≡ out.old) }
+        ensures settings_unchanged { OnErr result (self.new.told ≡ self.old.told) }
     {
         let place = self.place;
         let line = place.line.checked_add(1).ok_or(OutOfMemory)?;
@@ -316,7 +316,7 @@ impl CaptureReader {
             × (bad (format_of self.old) (o ++ piece.now) ≡ None)) }
         ensures waits { OnOk result (Waits self.new) }
         ensures format { OnOk result (format_of self.new ≡ format_of self.old) }
-        // What a refusal tells, and what it leaves.
+        // What a refusal tells.
         ensures refused { (o : List ℕ) → Reads o self.old → IfErr result (λ e. Refuses e (λ b.
             (bad (format_of self.old) (o ++ piece.now) ≡ Some b)
             × Adds (format_of self.old) o piece.now out.old out.new

@@ -6,11 +6,11 @@ ghost use Rattle.zre_msg.specs.Spelling.{head, string};
 ghost use Rattle.zre_capture.specs.Draws.{after_draws, octets_drawn};
 ghost use Rattle.zre_capture.specs.Exercise.{changes, status, after_content, spelling};
 
-use crate::draws::{ROOM, push_drawn};
+use crate::draws::{MOST_OCTETS, push_drawn};
 use zre_values::FewOctets;
 
 // How many of the first messages of a peer, up to this one, are JOIN or LEAVE.
-#[tactic(auto, using(crate::proofs::Talking::changes_by_leave, crate::proofs::Talking::changes_by_others))]
+#[tactic(auto, using(crate::proofs::ChangeCounts::changes_by_leave, crate::proofs::ChangeCounts::changes_by_others))]
 #[inline(always)]
 fn changes(k: u32) -> u32
     ensures { result ≡ changes (suc k) }
@@ -39,7 +39,7 @@ fn sequence(k: u32) -> u16
 
 // JOIN or LEAVE of the group, in place of what stands there.
 #[inline(always)]
-fn spell_change(out: &mut FewOctets<ROOM>, command: u8, k: u32)
+fn spell_change(out: &mut FewOctets<MOST_OCTETS>, command: u8, k: u32)
     ensures { out.new ≡ frame 0 (head command ((2 + k) % 65536) ++ (string (codes "all") ++ status k ∷ [])) }
 {
     out.clear();
@@ -50,7 +50,7 @@ fn spell_change(out: &mut FewOctets<ROOM>, command: u8, k: u32)
 
 // The first frame of a SHOUT to the group, in place of what stands there.
 #[inline(always)]
-fn spell_shout(out: &mut FewOctets<ROOM>, k: u32)
+fn spell_shout(out: &mut FewOctets<MOST_OCTETS>, k: u32)
     ensures { out.new ≡ frame 1 (head 3 ((2 + k) % 65536) ++ string (codes "all")) }
 {
     out.clear();
@@ -61,7 +61,7 @@ fn spell_shout(out: &mut FewOctets<ROOM>, k: u32)
 
 // The first frame of a WHISPER, in place of what stands there.
 #[inline(always)]
-fn spell_whisper(out: &mut FewOctets<ROOM>, k: u32)
+fn spell_whisper(out: &mut FewOctets<MOST_OCTETS>, k: u32)
     ensures { out.new ≡ frame 1 (head 2 ((2 + k) % 65536)) }
 {
     out.clear();
@@ -71,7 +71,7 @@ fn spell_whisper(out: &mut FewOctets<ROOM>, k: u32)
 
 // Appends the frame of a content whose draws begin at x, and tells where they stand after it.
 #[inline(always)]
-fn push_content(out: &mut FewOctets<ROOM>, x: u64) -> u64
+fn push_content(out: &mut FewOctets<MOST_OCTETS>, x: u64) -> u64
     requires { length out.old ≤ 14 }
     ensures octets { out.new ≡ out.old ++ frame 0 (octets_drawn 8 x) }
     ensures after { result ≡ after_draws 8 x }
@@ -83,7 +83,7 @@ fn push_content(out: &mut FewOctets<ROOM>, x: u64) -> u64
 /// The octets of message k of a peer, whose draws begin at x, in place of what stands there; and where the draws stand
 /// after its content.
 #[inline(always)]
-pub(crate) fn spell(out: &mut FewOctets<ROOM>, k: u32, x: u64) -> u64
+pub(crate) fn spell(out: &mut FewOctets<MOST_OCTETS>, k: u32, x: u64) -> u64
     ensures octets { out.new ≡ spelling k x }
     ensures after { result ≡ after_content k x }
 {
@@ -104,7 +104,7 @@ pub(crate) fn spell(out: &mut FewOctets<ROOM>, k: u32, x: u64) -> u64
 /// How many of so many octets come in the first piece.
 #[inline(always)]
 pub(crate) fn cut_by(draw: u32, len: usize) -> usize
-    requires { len ≤ ROOM }
+    requires { len ≤ MOST_OCTETS }
     ensures value { result ≡ draw % (len + 1) }
     ensures within { result ≤ len }
 {

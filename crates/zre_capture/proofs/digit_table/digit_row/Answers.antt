@@ -1,7 +1,7 @@
 use Rattle.std.proofs.Common.{◌≤◌, ℕ, sym, subst, arith}
 use Rattle.std.proofs.lemmas.List.FromFn.{get_or-map-range_with_len}
 use Rattle.zre_capture.specs.DigitTable.{digit_row}
-use Rattle.zre_capture.proofs.Decoding.{row-few}
+use Rattle.zre_capture.proofs.DecodedPairs.{row-few}
 use Rattle.zre_capture.proofs.digit_table.digit_row.Goals as goal
 
 pub returns-clause-value : goal.returns-clause-value

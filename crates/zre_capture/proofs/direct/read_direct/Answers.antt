@@ -3,7 +3,7 @@ use Rattle.std.specs.Prelude.{codes}
 use Rattle.zre_outside.specs.declared.entry.Input.TheVariants as got
 use Rattle.zre_capture.specs.Values.{hex_of}
 use Rattle.zre_capture.proofs.OnePass.{tick-read, piece-read}
-use Rattle.zre_capture.proofs.Parts.{equal}
+use Rattle.zre_capture.proofs.TextParts.{equal}
 use Rattle.zre_capture.proofs.direct.read_direct.Goals as goal
 
 pub returns-then-eq-clause-read : goal.returns-then-eq-clause-read

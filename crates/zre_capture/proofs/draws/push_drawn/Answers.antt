@@ -1,9 +1,9 @@
 use Rattle.std.proofs.Common.{ℕ, List, length, ap, refl, arith}
-use Rattle.zre_capture.proofs.Drawing.{next_draw, all_drawn, all_drawn_octets}
+use Rattle.zre_capture.proofs.OctetsOfDraws.{next_draw, all_drawn, all_drawn_octets}
 use Rattle.zre_capture.proofs.draws.push_drawn.Goals as goal
 
 pub draws-init : goal.draws-init
-draws-init c = record { after = refl; octets = refl; room = refl }
+draws-init c = record { after = refl; octets = refl; total = refl }
 
 pub draws-preserved : goal.draws-preserved
 draws-preserved c =
@@ -17,4 +17,4 @@ returns c = record {
 }
 
 pub append-requires : goal.append-requires
-append-requires c = omega (arith, c.draws.invariant.room, c.draws-test.true, c.requires, ap (λ (o : List ℕ). length o) c.to_be_bytes.ensures)
+append-requires c = omega (arith, c.draws.invariant.total, c.draws-test.true, c.requires, ap (λ (o : List ℕ). length o) c.to_be_bytes.ensures)

@@ -1,4 +1,4 @@
-use Rattle.zre_capture.proofs.Drawing.{Drawing}
+use Rattle.zre_capture.proofs.OctetsOfDraws.{Drawing}
 use Rattle.zre_capture.proofs.draws.push_drawn.Given as goal
 
 abbrev pub invariant-draws : goal.invariant-draws

@@ -1,7 +1,7 @@
 use Rattle.std.proofs.Common.{◌≡◌, ℕ, ◌+◌, Bool, cond, List, Some, length, sym, ap, ◌∙◌, arith}
 use Rattle.zre_capture.specs.declared.field.Field.{Field}
 use Rattle.zre_capture.specs.Reading.{first_bad, bad_field, given_after, but_last, fields_in, form}
-use Rattle.zre_capture.proofs.Columns.{cut, cut-length, all-bad, whole_ones-bad, all-good, whole_ones-good, last-bad, last-good, last-left_out, either}
+use Rattle.zre_capture.proofs.FirstBadColumn.{cut, cut-length, all-bad, whole_ones-bad, all-good, whole_ones-good, last-bad, last-good, last-left_out, either}
 use Rattle.zre_capture.proofs.field.first_bad.Goals as goal
 
 pub returns-then-not-meets : goal.returns-then-not-meets

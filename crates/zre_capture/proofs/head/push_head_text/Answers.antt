@@ -3,7 +3,7 @@ use Rattle.std.specs.Prelude.{decimal}
 use Rattle.std.proofs.lemmas.Result.{IfOk-weaker}
 use Rattle.zre_values.specs.Address.{address_text}
 use Rattle.zre_values.specs.Text.{id_text, quoted, quoted_pairs}
-use Rattle.zre_capture.proofs.Heads.{head_joined}
+use Rattle.zre_capture.proofs.HeadSettings.{head_joined}
 use Rattle.zre_capture.proofs.head.push_head_text.Goals as goal
 
 pub returns : goal.returns

@@ -3,7 +3,7 @@ use Rattle.std.specs.Prelude.{codes}
 use Rattle.std.proofs.lemmas.Result.{IfOk-weaker}
 use Rattle.zre_values.specs.Address.{address_text}
 use Rattle.zre_values.specs.Text.{id_text, quoted}
-use Rattle.zre_capture.proofs.Heads.{who_joined}
+use Rattle.zre_capture.proofs.HeadSettings.{who_joined}
 use Rattle.zre_capture.proofs.head.push_who.Goals as goal
 
 pub returns : goal.returns

@@ -1,7 +1,7 @@
 use Rattle.std.proofs.Common.{ℕ, ◌+◌, ◌==◌, ◌∙◌, ap, sym, length}
 use Rattle.std.proofs.lemmas.List.Splits.{length-slice_split}
 use Rattle.zre_capture.specs.Parts.{between}
-use Rattle.zre_capture.proofs.Listing.{few-test}
+use Rattle.zre_capture.proofs.HeaderLists.{few-test}
 use Rattle.zre_capture.proofs.headers.are_few.Goals as goal
 
 pub returns : goal.returns

@@ -1,7 +1,7 @@
 use Rattle.zre_capture.specs.Parts.{between}
 use Rattle.std.proofs.Common.{[]}
-use Rattle.zre_capture.proofs.Parts.{between-cut, between-whole}
-use Rattle.zre_capture.proofs.Listing.{name_first}
+use Rattle.zre_capture.proofs.TextParts.{between-cut, between-whole}
+use Rattle.zre_capture.proofs.HeaderLists.{name_first}
 use Rattle.zre_capture.proofs.headers.name_in.Goals as goal
 
 pub returns-in-Some : goal.returns-in-Some

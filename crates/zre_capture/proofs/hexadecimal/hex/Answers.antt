@@ -2,8 +2,8 @@ use Rattle.std.proofs.Common.{Some, List, ℕ, inl, inr, sym, ap, ◌∙◌, ari
 use Rattle.std.specs.Prelude.{codes}
 use Rattle.std.proofs.lemmas.Bool.{eqb-true}
 use Rattle.zre_capture.specs.Values.{hex_of}
-use Rattle.zre_capture.proofs.Parts.{equal, unequal}
-use Rattle.zre_capture.proofs.Decoding.{unpaired}
+use Rattle.zre_capture.proofs.TextParts.{equal, unequal}
+use Rattle.zre_capture.proofs.DecodedPairs.{unpaired}
 use Rattle.zre_capture.proofs.HexPairs.{hex_of-dash}
 use Rattle.zre_capture.proofs.hexadecimal.hex.Goals.{then-is_empty-via-then-is_empty, then-is_empty-via-else-is_empty+then-field-ne0}
 use Rattle.zre_capture.proofs.hexadecimal.hex.Goals as goal

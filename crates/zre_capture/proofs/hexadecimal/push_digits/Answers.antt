@@ -2,7 +2,7 @@ use Rattle.std.proofs.Common.{◌≡◌, ◌++◌, ◌∙◌, ℕ, List, [], len
 use Rattle.std.proofs.lemmas.Bool.{eqb-true}
 use Rattle.std.proofs.lemmas.List.{append-nil, nil_from_length}
 use Rattle.hex.specs.Hex.{encode_lower}
-use Rattle.zre_capture.proofs.Digits.{encode_lower-split, encode_lower-nil}
+use Rattle.zre_capture.proofs.HexSplits.{encode_lower-split, encode_lower-nil}
 use Rattle.zre_capture.proofs.hexadecimal.push_digits.Goals as goal
 
 turned : (n : ℕ) (out new o front after all : List ℕ) → front ≡ take n o → after ≡ drop n o → new ≡ out ++ encode_lower front → out ++ encode_lower o ≡ all → new ++ encode_lower after ≡ all

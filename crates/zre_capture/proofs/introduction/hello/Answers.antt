@@ -1,4 +1,4 @@
-use Rattle.zre_capture.proofs.Introducing.{hello_fits}
+use Rattle.zre_capture.proofs.HelloFits.{hello_fits}
 use Rattle.zre_capture.proofs.introduction.hello.Goals as goal
 
 pub returns-clause-fits : goal.returns-clause-fits

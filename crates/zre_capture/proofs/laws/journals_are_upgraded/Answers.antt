@@ -1,4 +1,4 @@
-use Rattle.zre_capture.proofs.Upgrading.{journal-are, journal-short}
+use Rattle.zre_capture.proofs.FormatUpgrade.{journal-are, journal-short}
 use Rattle.zre_capture.proofs.laws.journals_are_upgraded.Goals as goal
 
 pub returns-clause-values : goal.returns-clause-values

@@ -2,8 +2,8 @@ use Rattle.std.proofs.Common.{sym, ◌∙◌, ap, Some, List, ℕ}
 use Rattle.std.specs.Prelude.{codes}
 use Rattle.std.proofs.lemmas.Result.{IfOk-weaker}
 use Rattle.zre_capture.specs.Values.{frames_of}
-use Rattle.zre_capture.proofs.Parts.{equal, unequal}
-use Rattle.zre_capture.proofs.Members.{frames_of-percent, members_found}
+use Rattle.zre_capture.proofs.TextParts.{equal, unequal}
+use Rattle.zre_capture.proofs.QuotedMembers.{frames_of-percent, members_found}
 use Rattle.zre_capture.proofs.list.frames.Goals as goal
 
 pub returns-then-eq : goal.returns-then-eq

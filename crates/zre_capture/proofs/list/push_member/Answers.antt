@@ -1,5 +1,5 @@
 use Rattle.std.proofs.Common.{◌++◌, ◌∷◌, [], List, ℕ, sym, ap, ◌∙◌}
-use Rattle.zre_capture.proofs.Members.{group_of-unquoted}
+use Rattle.zre_capture.proofs.QuotedMembers.{group_of-unquoted}
 use Rattle.zre_capture.proofs.list.push_member.Goals as goal
 
 pub returns-clause-pushed : goal.returns-clause-pushed

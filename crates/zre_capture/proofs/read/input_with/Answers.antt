@@ -1,5 +1,5 @@
 use Rattle.zre_outside.specs.declared.entry.Input.TheVariants as got
-use Rattle.zre_capture.proofs.Fields.{never_alone}
+use Rattle.zre_capture.proofs.FieldByField.{never_alone}
 use Rattle.zre_capture.proofs.read.input_with.Goals as goal
 
 pub returns-in-Tick : goal.returns-in-Tick

@@ -1,5 +1,5 @@
 use Rattle.std.proofs.Common.{sym}
-use Rattle.zre_capture.proofs.Fields.{one-whole, one-cut}
+use Rattle.zre_capture.proofs.FieldByField.{one-whole, one-cut}
 use Rattle.zre_capture.proofs.read.one_part.Goals as goal
 
 pub returns-in-None : goal.returns-in-None

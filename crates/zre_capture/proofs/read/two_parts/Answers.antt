@@ -1,6 +1,6 @@
 use Rattle.std.proofs.Common.{List, ℕ, sym, ap, ◌∙◌}
 use Rattle.std.specs.Prelude.{option_map}
-use Rattle.zre_capture.proofs.Fields.{two-whole, two-cut}
+use Rattle.zre_capture.proofs.FieldByField.{two-whole, two-cut}
 use Rattle.zre_capture.proofs.read.two_parts.Goals as goal
 
 pub returns-in_err-first : goal.returns-in_err-first

@@ -1,4 +1,4 @@
-use Rattle.zre_capture.proofs.Parts.{between-cut, between-whole}
+use Rattle.zre_capture.proofs.TextParts.{between-cut, between-whole}
 use Rattle.zre_capture.proofs.split.first_part.Goals as goal
 
 pub returns-in_err-first-clause-parts : goal.returns-in_err-first-clause-parts

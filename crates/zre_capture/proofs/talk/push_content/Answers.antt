@@ -1,6 +1,6 @@
 use Rattle.std.proofs.Common.{ℕ, List, [], ◌∷◌, ◌++◌, ap, sym, ◌∙◌, append_assoc}
 use Rattle.zre_capture.specs.Draws.{octets_drawn}
-use Rattle.zre_capture.proofs.Messages.{content_framed}
+use Rattle.zre_capture.proofs.SpelledMessages.{content_framed}
 use Rattle.zre_capture.proofs.talk.push_content.Goals as goal
 
 pub returns-clause-octets : goal.returns-clause-octets

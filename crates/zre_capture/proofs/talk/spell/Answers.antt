@@ -3,7 +3,7 @@ use Rattle.zre_values.specs.Framing.{frame}
 use Rattle.zre_msg.specs.Spelling.{head, string}
 use Rattle.zre_capture.specs.Draws.{octets_drawn}
 use Rattle.zre_capture.specs.Exercise.{status}
-use Rattle.zre_capture.proofs.Messages.{join_spelled, shout_spelled, whisper_spelled, leave_spelled, still_after, still_after_leave, drawn_after_shout, drawn_after_whisper}
+use Rattle.zre_capture.proofs.SpelledMessages.{join_spelled, shout_spelled, whisper_spelled, leave_spelled, still_after, still_after_leave, drawn_after_shout, drawn_after_whisper}
 use Rattle.zre_capture.proofs.talk.spell.Goals as goal
 use Rattle.zre_capture.proofs.talk.spell.Goals.{then-kind-eq0, else-kind-eq0}
 

@@ -1,5 +1,5 @@
 use Rattle.std.proofs.Common.{arith, rules, sym, ap, ◌∙◌}
-use Rattle.zre_capture.proofs.Spelled.{address_of-text, address_of-some, none_spec}
+use Rattle.zre_capture.proofs.FieldTexts.{address_of-text, address_of-some, none_spec}
 use Rattle.zre_capture.specs.Values.{address_of}
 use Rattle.zre_capture.proofs.value.address.Goals as goal
 

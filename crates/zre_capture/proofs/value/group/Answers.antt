@@ -1,7 +1,7 @@
 use Rattle.std.proofs.Common.{sym, ◌∙◌, ◌≡◌, true}
 use Rattle.std.specs.Prelude.{is_some}
 use Rattle.std.proofs.lemmas.Result.{IfOk-weaker}
-use Rattle.zre_capture.proofs.Spelled.{value_there, group_of-some}
+use Rattle.zre_capture.proofs.FieldTexts.{value_there, group_of-some}
 use Rattle.zre_capture.specs.Values.{group_of}
 use Rattle.zre_capture.proofs.value.group.Goals as goal
 

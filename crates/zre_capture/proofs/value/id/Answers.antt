@@ -1,4 +1,4 @@
-use Rattle.zre_capture.proofs.Spelled.{read_ids}
+use Rattle.zre_capture.proofs.FieldTexts.{read_ids}
 use Rattle.zre_capture.proofs.value.id.Goals as goal
 
 pub returns : goal.returns

@@ -1,5 +1,5 @@
 use Rattle.std.proofs.Common.{sym, ap, ◌∙◌}
-use Rattle.zre_capture.proofs.Spelled.{tested, some_is, group_of-quoted, group_of-some}
+use Rattle.zre_capture.proofs.FieldTexts.{tested, some_is, group_of-quoted, group_of-some}
 use Rattle.zre_capture.specs.Values.{group_of}
 use Rattle.zre_capture.proofs.value.is_group.Goals as goal
 

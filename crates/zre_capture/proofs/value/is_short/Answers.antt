@@ -1,5 +1,5 @@
 use Rattle.std.proofs.Common.{sym, ◌∙◌}
-use Rattle.zre_capture.proofs.HeaderTexts.{short-some, short-none}
+use Rattle.zre_capture.proofs.QuotedLengths.{short-some, short-none}
 use Rattle.zre_capture.proofs.value.is_short.Goals as goal
 
 pub returns-in-Some : goal.returns-in-Some

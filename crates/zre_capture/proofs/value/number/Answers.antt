@@ -1,5 +1,5 @@
 use Rattle.std.proofs.Common.{arith, sym, ap, ◌∙◌}
-use Rattle.zre_capture.proofs.Spelled.{number_of-decimal, number_of-some, none_spec}
+use Rattle.zre_capture.proofs.FieldTexts.{number_of-decimal, number_of-some, none_spec}
 use Rattle.zre_capture.specs.Values.{number_of}
 use Rattle.zre_capture.proofs.value.number.Goals as goal
 

@@ -1,7 +1,7 @@
 use Rattle.std.proofs.Common.{arith, sym, ap, ◌∙◌}
 use Rattle.zre_capture.specs.Values.{number_of, number_within}
-use Rattle.zre_capture.proofs.Spelled.{none_spec, number_of-decimal, number_of-some}
-use Rattle.zre_capture.proofs.Differences.{within-some, within-decimal, within-number}
+use Rattle.zre_capture.proofs.FieldTexts.{none_spec, number_of-decimal, number_of-some}
+use Rattle.zre_capture.proofs.ReadingDifferences.{within-some, within-decimal, within-number}
 use Rattle.zre_capture.proofs.value.number_within.Goals as goal
 
 pub returns-in_err-n-clause-number : goal.returns-in_err-n-clause-number

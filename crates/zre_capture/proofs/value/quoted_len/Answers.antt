@@ -1,9 +1,9 @@
 use Rattle.std.proofs.Common.{◌≡◌, ◌*◌, ◌-◌, ℕ, List, length, arith, Some, sym, ap, ◌∙◌}
 use Rattle.std.specs.Prelude.{option_map, codes}
 use Rattle.zre_capture.specs.Values.{group_of}
-use Rattle.zre_capture.proofs.Parts.{equal, unequal}
-use Rattle.zre_capture.proofs.Spelled.{value_there}
-use Rattle.zre_capture.proofs.HeaderTexts.{len-tilde, len-some}
+use Rattle.zre_capture.proofs.TextParts.{equal, unequal}
+use Rattle.zre_capture.proofs.FieldTexts.{value_there}
+use Rattle.zre_capture.proofs.QuotedLengths.{len-tilde, len-some}
 use Rattle.zre_capture.proofs.value.quoted_len.Goals as goal
 
 pub returns-then-eq : goal.returns-then-eq

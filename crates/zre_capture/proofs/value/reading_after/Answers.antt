@@ -1,8 +1,8 @@
 use Rattle.std.proofs.Common.{sym, ap, ◌∙◌}
 use Rattle.std.proofs.lemmas.List.{nil_from_length}
 use Rattle.zre_capture.specs.Values.{number_of, reading_after}
-use Rattle.zre_capture.proofs.Spelled.{none_spec}
-use Rattle.zre_capture.proofs.Differences.{more-some, more-checked, no_field}
+use Rattle.zre_capture.proofs.FieldTexts.{none_spec}
+use Rattle.zre_capture.proofs.ReadingDifferences.{more-some, more-checked, no_field}
 use Rattle.zre_capture.proofs.value.reading_after.Goals as goal
 
 pub returns-in_err-first : goal.returns-in_err-first

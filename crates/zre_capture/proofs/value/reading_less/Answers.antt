@@ -1,8 +1,8 @@
 use Rattle.std.proofs.Common.{◌≡◌, ◌-◌, ◌∷◌, arith, sym, ◌∙◌}
 use Rattle.std.proofs.lemmas.Option.{same_Some}
 use Rattle.zre_capture.specs.Values.{reading_after}
-use Rattle.zre_capture.proofs.Spelled.{none_spec}
-use Rattle.zre_capture.proofs.Differences.{less-some, less-number}
+use Rattle.zre_capture.proofs.FieldTexts.{none_spec}
+use Rattle.zre_capture.proofs.ReadingDifferences.{less-some, less-number}
 use Rattle.zre_capture.proofs.value.reading_less.Goals as goal
 
 pub returns-in_err-n : goal.returns-in_err-n

@@ -1,6 +1,6 @@
 use Rattle.std.proofs.Common.{sym, ◌∙◌}
 use Rattle.std.proofs.lemmas.Result.{IfOk-weaker}
-use Rattle.zre_capture.proofs.HeaderTexts.{short-group}
+use Rattle.zre_capture.proofs.QuotedLengths.{short-group}
 use Rattle.zre_capture.proofs.value.short.Goals as goal
 
 pub returns-then-is_short : goal.returns-then-is_short

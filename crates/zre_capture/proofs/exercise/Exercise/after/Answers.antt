@@ -1,5 +1,5 @@
 use Rattle.std.proofs.Common.{◌+◌}
-use Rattle.zre_capture.proofs.Leaving.{peer_comes, peers_end}
+use Rattle.zre_capture.proofs.EntriesLeft.{peer_comes, peers_end}
 use Rattle.zre_capture.proofs.exercise.Exercise.after.Goals as goal
 
 pub returns-then-peer-self : goal.returns-then-peer-self

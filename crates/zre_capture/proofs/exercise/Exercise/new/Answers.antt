@@ -1,4 +1,4 @@
-use Rattle.zre_capture.proofs.Leaving.{exercise_begins}
+use Rattle.zre_capture.proofs.EntriesLeft.{exercise_begins}
 use Rattle.zre_capture.proofs.exercise.Exercise.new.Goals as goal
 
 pub returns : goal.returns

@@ -2,7 +2,7 @@ use Rattle.std.proofs.Common.{refl, sym, ap, ◌∙◌, ◌∷◌, List}
 use Rattle.zre_outside.specs.declared.entry.Entry.{Entry}
 use Rattle.zre_capture.specs.Exercise.{introduced}
 use Rattle.zre_capture.specs.Left.{left_at}
-use Rattle.zre_capture.proofs.Leaving.{at_messages, messages_end, same_left}
+use Rattle.zre_capture.proofs.EntriesLeft.{at_messages, messages_end, same_left}
 use Rattle.zre_capture.proofs.exercise.Exercise.next.Goals as goal
 use Rattle.zre_capture.proofs.exercise.Exercise.next.Goals.{in-Beacon+in_ok-entry-in-Beacon, in-Opened, in-Introduction+in_ok-entry-in-Introduction, in-Messages, in-First+in_ok-entry-in-First, in-Second+in_ok-entry-in-Second}
 

@@ -1,6 +1,6 @@
 use Rattle.std.proofs.Common.{◌+◌, ◌%◌, ap, ◌∙◌, arith}
 use Rattle.zre_capture.specs.Draws.{upper_half}
-use Rattle.zre_capture.proofs.Leaving.{at_messages, given_two, message_comes}
+use Rattle.zre_capture.proofs.EntriesLeft.{at_messages, given_two, message_comes}
 use Rattle.zre_capture.proofs.exercise.Exercise.next_message.Goals as goal
 
 pub returns-clause-given : goal.returns-clause-given

@@ -1,6 +1,6 @@
 use Rattle.std.proofs.Common.{List, ℕ, [], None, sym, subst}
 use Rattle.zre_capture.specs.Journal.{start, Reads}
-use Rattle.zre_capture.proofs.Lines.{reads-start}
+use Rattle.zre_capture.proofs.LineByLine.{reads-start}
 use Rattle.zre_capture.proofs.reader.CaptureReader.at_start.Goals as goal
 
 pub returns-clause-reads : goal.returns-clause-reads

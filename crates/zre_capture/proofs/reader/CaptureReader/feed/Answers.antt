@@ -2,21 +2,21 @@ use Rattle.std.proofs.Common.{◌++◌, List, ℕ, Some, sym, ap, ◌∙◌, sub
 use Rattle.std.proofs.lemmas.Result.{err_from_is_err_and}
 use Rattle.zre_capture.specs.declared.fault.BadCapture.{BadCapture}
 use Rattle.zre_capture.specs.Journal.{CaptureReading, Reads}
-use Rattle.zre_capture.proofs.Lines.{amid-line, amid-out, amid-at, adds-front, refused-line, refused-end, read-all, refuses-weaker}
+use Rattle.zre_capture.proofs.LineByLine.{amid-line, amid-out, amid-at, adds-front, refused-line, refused-end, read-all, refuses-weaker}
 use Rattle.zre_capture.proofs.reader.CaptureReader.feed.Goals as goal
 
 pub returns-in_err-take_line-clause-refused : goal.returns-in_err-take_line-clause-refused
 returns-in_err-take_line-clause-refused c = λ o reads.
     let p = err_from_is_err_and c.from_residual.result c.from_residual.ensures.1 in
-    let amid = amid-out c.args.self.now c.args.piece.now c.args.out.now c.lines.out c.take_line.new.out c.lines.self c.lines.rest.now c.lines.invariant c.in_err-take_line.ensures.kept in
+    let amid = amid-out c.args.self.now c.args.piece.now c.args.out.now c.lines.out c.take_line.new.out c.lines.self c.lines.rest.now c.lines.invariant c.in_err-take_line.ensures.unchanged in
     rw (p.1, p.2) (refuses-weaker c.in_err-take_line.field-0.0 _ _
     (λ b f. let w = refused-line o c.args.piece.now c.args.self.now c.lines.self c.args.out.now c.take_line.new.out c.lines.rest.now reads amid c.in-Some.text.now c.in-Some.after.now c.in-Some.ensures.parts c.in-Some.ensures.first f.0 in
-    (w.0 ∙ ap (λ (place : BadCapture). Some place) (sym f.1), w.1, c.in_err-take_line.ensures.kept_told ∙ w.2)) c.in_err-take_line.ensures.refused)
+    (w.0 ∙ ap (λ (place : BadCapture). Some place) (sym f.1), w.1, c.in_err-take_line.ensures.settings_unchanged ∙ w.2)) c.in_err-take_line.ensures.refused)
 
 pub returns-in_err-take_line-clause-front : goal.returns-in_err-take_line-clause-front
 returns-in_err-take_line-clause-front c = λ o reads.
     let p = err_from_is_err_and c.from_residual.result c.from_residual.ensures.1 in
-    let amid = amid-out c.args.self.now c.args.piece.now c.args.out.now c.lines.out c.take_line.new.out c.lines.self c.lines.rest.now c.lines.invariant c.in_err-take_line.ensures.kept in
+    let amid = amid-out c.args.self.now c.args.piece.now c.args.out.now c.lines.out c.take_line.new.out c.lines.self c.lines.rest.now c.lines.invariant c.in_err-take_line.ensures.unchanged in
     rw p.1 (adds-front o c.args.piece.now c.args.self.now c.lines.self c.args.out.now c.take_line.new.out c.lines.rest.now reads amid)
 
 pub lines-preserved : goal.lines-preserved

@@ -1,5 +1,5 @@
 use Rattle.std.proofs.Common.{length}
-use Rattle.zre_capture.proofs.Lines.{IsAmid}
+use Rattle.zre_capture.proofs.LineByLine.{IsAmid}
 use Rattle.zre_capture.proofs.reader.CaptureReader.feed.Given as goal
 
 abbrev pub invariant-lines : goal.invariant-lines

@@ -1,7 +1,7 @@
 use Rattle.std.proofs.Common.{ℕ, List, Bool, cond, Some, None, sym, ap, ◌∙◌}
 use Rattle.zre_capture.specs.Reading.{column}
 use Rattle.zre_capture.specs.Journal.{CaptureReading}
-use Rattle.zre_capture.proofs.Lines.{at_end}
+use Rattle.zre_capture.proofs.LineByLine.{at_end}
 use Rattle.zre_capture.proofs.reader.CaptureReader.finish.Goals as goal
 
 pub returns-then-is_after_a_line : goal.returns-then-is_after_a_line

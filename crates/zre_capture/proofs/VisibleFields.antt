@@ -22,8 +22,8 @@ use Rattle.zre_capture.specs.Lines.{hex_text}
 use Rattle.zre_capture.specs.Parts.{between, Lacks}
 use Rattle.zre_capture.specs.Values.{is_lower_digit}
 use Rattle.zre_capture.proofs.HexPairs.{encoded-lower}
-use Rattle.zre_capture.proofs.Parts.{between-cut, between-whole}
-use Rattle.zre_capture.proofs.Lines.{lacks-append}
+use Rattle.zre_capture.proofs.TextParts.{between-cut, between-whole}
+use Rattle.zre_capture.proofs.LineByLine.{lacks-append}
 
 abbrev pub is_visible : ℕ → Bool
 is_visible b = leb 33 b

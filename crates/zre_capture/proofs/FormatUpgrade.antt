@@ -27,10 +27,10 @@ use Rattle.zre_capture.specs.declared.word.InputWord.TheVariants as word
 use Rattle.zre_capture.specs.declared.word.CommandWord.{CommandWord}
 use Rattle.zre_capture.specs.declared.word.CommandWord.TheVariants as order
 use Rattle.zre_capture.proofs.ReadIsSpelled.{both, made, stood_alone, stepped, worded, text-entry_of}
-use Rattle.zre_capture.proofs.Differences.{reading_after-some}
-use Rattle.zre_capture.proofs.Lines.{entries-good, entries-bad}
-use Rattle.zre_capture.proofs.Members.{frames_of-some}
-use Rattle.zre_capture.proofs.Spelled.{number_of-some, hex_of-some, address_of-some, id_of-some, group_of-some}
+use Rattle.zre_capture.proofs.ReadingDifferences.{reading_after-some}
+use Rattle.zre_capture.proofs.LineByLine.{entries-good, entries-bad}
+use Rattle.zre_capture.proofs.QuotedMembers.{frames_of-some}
+use Rattle.zre_capture.proofs.FieldTexts.{number_of-some, hex_of-some, address_of-some, id_of-some, group_of-some}
 
 -- ---- what is read holds values of its types
 

@@ -4,7 +4,7 @@ use Rattle.std.specs.Prelude.{option_map}
 use Rattle.std.proofs.lemmas.List.Splits.{length-slice_split}
 use Rattle.zre_capture.specs.Parts.{between, Lacks, one, two}
 use Rattle.zre_capture.specs.Reading.{fields_in, alone}
-use Rattle.zre_capture.proofs.Parts.{between-cut, between-whole}
+use Rattle.zre_capture.proofs.TextParts.{between-cut, between-whole}
 
 pub some_fields : (text : List ℕ) → 0 < length (fields_in text)
 some_fields text = omega (arith, length-slice_split (λ b. b == 32) text)

@@ -9,9 +9,9 @@ use Rattle.std.proofs.lemmas.List.Elements.{All-head, All-tail}
 use Rattle.std.proofs.lemmas.List.Sums.{sum_by-cons}
 use Rattle.zre_values.specs.Text.{hex_digit, is_plain, quoted_octet, quoted}
 use Rattle.zre_capture.specs.Values.{are_octets, unquoted, group_of, short_of}
-use Rattle.zre_capture.proofs.Members.{digit_other}
-use Rattle.zre_capture.proofs.Spelled.{found, spelled-one, octets-true, octets-from, group_of-quoted, group_of-some}
-use Rattle.zre_capture.proofs.Unquoting.{not_percent, unquoted-quoted}
+use Rattle.zre_capture.proofs.QuotedMembers.{digit_other}
+use Rattle.zre_capture.proofs.FieldTexts.{found, spelled-one, octets-true, octets-from, group_of-quoted, group_of-some}
+use Rattle.zre_capture.proofs.UnquotedQuoted.{not_percent, unquoted-quoted}
 
 abbrev percents : List ℕ → ℕ
 percents t = count_by (λ b. b == 37) t

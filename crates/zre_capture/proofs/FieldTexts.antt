@@ -29,7 +29,7 @@ use Rattle.zre_values.proofs.Digits.{decimal-lacks}
 use Rattle.zre_values.proofs.PlainIds.{text-parsed, octets_of, plain-text}
 use Rattle.zre_capture.specs.Lines.{hex_text}
 use Rattle.zre_capture.specs.Values.{where_spelled, number_of, id_of, group_of, hex_of, address_of, dotted, decoded, unquoted}
-use Rattle.zre_capture.proofs.Unquoting.{unquoted-quoted}
+use Rattle.zre_capture.proofs.UnquotedQuoted.{unquoted-quoted}
 
 -- a value is of its type, and a field is its text
 pub record IsTextOf {V : Type 0} (Is : V → Type 0) (spell : V → List ℕ) (v : V) (field : List ℕ) : Type 0 where

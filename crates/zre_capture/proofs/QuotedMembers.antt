@@ -15,9 +15,9 @@ use Rattle.std.proofs.lemmas.Slice.Eq.{bytes_eq-Decides}
 use Rattle.zre_values.specs.Text.{hex_digit, is_plain, quoted_octet, quoted, quoted_list}
 use Rattle.zre_capture.specs.Parts.{between}
 use Rattle.zre_capture.specs.Values.{group_of, frames_of, unquoted, unquoted_list, are_octets, are_groups}
-use Rattle.zre_capture.proofs.Parts.{lacks-from_any}
-use Rattle.zre_capture.proofs.Spelled.{IsTextOf, AreOctets, found, spelled-one, text_or_tested, group_of-quoted, octets-from, octets-true, value_there, some_is, none_spec}
-use Rattle.zre_capture.proofs.Unquoting.{unquoted-quoted}
+use Rattle.zre_capture.proofs.TextParts.{lacks-from_any}
+use Rattle.zre_capture.proofs.FieldTexts.{IsTextOf, AreOctets, found, spelled-one, text_or_tested, group_of-quoted, octets-from, octets-true, value_there, some_is, none_spec}
+use Rattle.zre_capture.proofs.UnquotedQuoted.{unquoted-quoted}
 
 -- ---- octets that don't stand in quoted texts
 

@@ -16,12 +16,12 @@ use Rattle.zre_capture.specs.Headers.{header_in, header_of, headers_in, first_pa
 use Rattle.zre_capture.specs.Heads.{IsHeader}
 use Rattle.zre_capture.specs.Parts.{between, two}
 use Rattle.zre_capture.specs.Values.{short_of, unquoted}
-use Rattle.zre_capture.proofs.HeaderTexts.{short_of-some, short-quoted}
-use Rattle.zre_capture.proofs.Members.{quoted-lacks, comma, equals}
-use Rattle.zre_capture.proofs.Parts.{between-cut, between-whole, lacks-from_any}
+use Rattle.zre_capture.proofs.QuotedLengths.{short_of-some, short-quoted}
+use Rattle.zre_capture.proofs.QuotedMembers.{quoted-lacks, comma, equals}
+use Rattle.zre_capture.proofs.TextParts.{between-cut, between-whole, lacks-from_any}
 use Rattle.zre_capture.proofs.ReadIsSpelled.{stepped}
-use Rattle.zre_capture.proofs.Unquoting.{unquoted-quoted}
-use Rattle.zre_capture.proofs.Visible.{visible, is_visible, quoted-visible}
+use Rattle.zre_capture.proofs.UnquotedQuoted.{unquoted-quoted}
+use Rattle.zre_capture.proofs.VisibleFields.{visible, is_visible, quoted-visible}
 
 -- ---- one member after the other
 

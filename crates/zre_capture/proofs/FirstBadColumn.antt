@@ -4,7 +4,7 @@ use Rattle.std.proofs.lemmas.List.{length-append}
 use Rattle.zre_capture.specs.declared.field.Field.{Field}
 use Rattle.zre_capture.specs.Parts.{Lacks}
 use Rattle.zre_capture.specs.Reading.{fields_in, first_bad, but_last, meets, after, given_after}
-use Rattle.zre_capture.proofs.Fields.{fields-cut, fields-whole, some_fields}
+use Rattle.zre_capture.proofs.FieldByField.{fields-cut, fields-whole, some_fields}
 
 bad_here : (given : ℕ) (required : List Field) (f : List ℕ) (fs : List (List ℕ)) (at : ℕ) → meets given required f ≡ false → first_bad given required (f ∷ fs) at ≡ Some at
 bad_here given required f fs at e = rw e refl

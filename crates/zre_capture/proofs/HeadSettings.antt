@@ -19,11 +19,11 @@ use Rattle.zre_capture.specs.declared.format.Format.TheVariants.{Second}
 use Rattle.zre_capture.specs.declared.head.PlainSettings.{PlainSettings}
 use Rattle.zre_values.specs.declared.settings.Settings.{Settings}
 use Rattle.zre_capture.proofs.ReadIsSpelled.{stepped}
-use Rattle.zre_capture.proofs.Differences.{within-some, within-decimal}
-use Rattle.zre_capture.proofs.Spelled.{id_of-text, id_of-some, address_of-text, address_of-some}
-use Rattle.zre_capture.proofs.HeaderTexts.{short-quoted, short_of-some}
-use Rattle.zre_capture.proofs.Listing.{headers_of-pairs, headers_of-some, pairs-visible}
-use Rattle.zre_capture.proofs.Visible.{visible, decimal-visible, id-visible, address-visible, quoted-visible, fields-joined}
+use Rattle.zre_capture.proofs.ReadingDifferences.{within-some, within-decimal}
+use Rattle.zre_capture.proofs.FieldTexts.{id_of-text, id_of-some, address_of-text, address_of-some}
+use Rattle.zre_capture.proofs.QuotedLengths.{short-quoted, short_of-some}
+use Rattle.zre_capture.proofs.HeaderLists.{headers_of-pairs, headers_of-some, pairs-visible}
+use Rattle.zre_capture.proofs.VisibleFields.{visible, decimal-visible, id-visible, address-visible, quoted-visible, fields-joined}
 
 -- ---- too few fields, and too many
 

@@ -8,8 +8,8 @@ use Rattle.std.proofs.lemmas.Option.{same_Some}
 use Rattle.std.proofs.lemmas.Str.Parse.{digit_from_value}
 use Rattle.zre_capture.specs.Lines.{difference}
 use Rattle.zre_capture.specs.Values.{number_of, number_within, differing, reading_after}
-use Rattle.zre_capture.proofs.Spelled.{found, spelled-one, none_spec, number_of-decimal, number_of-some}
-use Rattle.zre_capture.proofs.Visible.{visible, decimal-visible}
+use Rattle.zre_capture.proofs.FieldTexts.{found, spelled-one, none_spec, number_of-decimal, number_of-some}
+use Rattle.zre_capture.proofs.VisibleFields.{visible, decimal-visible}
 
 -- ---- numbers in bounds
 

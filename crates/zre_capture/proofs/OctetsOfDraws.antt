@@ -31,7 +31,7 @@ appended_draw out before n x all h e = append_assoc out _ _ ∙ sym (ap (λ (o :
 pub record Drawing (left x count from : ℕ) (out before : List ℕ) : Type 0 where
   pub after : after_draws left x ≡ after_draws count from
   pub octets : out ++ octets_drawn left x ≡ before ++ octets_drawn count from
-  pub room : length out + 4 * left ≡ length before + 4 * count
+  pub total : length out + 4 * left ≡ length before + 4 * count
 
 pub next_draw : (left x count from : ℕ) (out before now octets : List ℕ) (y draw : ℕ) → Drawing left x count from out before → 0 < left →
     y ≡ drawn x → draw ≡ upper_half y → octets ≡ to_be_bytes w32 draw → now ≡ out ++ octets → Drawing (left - 1) y count from now before
@@ -40,7 +40,7 @@ next_draw left x count from out before now octets y draw d some to half spelled 
   octets = ap (λ (o : List ℕ). o ++ octets_drawn (left - 1) y) (appended ∙ ap (λ (o : List ℕ). out ++ o) (spelled ∙ ap (to_be_bytes w32) (half ∙ ap upper_half to)))
       ∙ ap (λ z. (out ++ to_be_bytes w32 (upper_half (drawn x))) ++ octets_drawn (left - 1) z) to
       ∙ appended_draw out before left x (octets_drawn count from) some d.octets;
-  room = omega (arith, d.room, some, ap (λ (o : List ℕ). length o) appended, length-append out octets, ap (λ (o : List ℕ). length o) spelled);
+  total = omega (arith, d.total, some, ap (λ (o : List ℕ). length o) appended, length-append out octets, ap (λ (o : List ℕ). length o) spelled);
 }
 
 pub all_drawn_octets : (left x count from : ℕ) (out before : List ℕ) → Drawing left x count from out before → left ≤ 0 → out ≡ before ++ octets_drawn count from

@@ -19,7 +19,7 @@ use Rattle.zre_capture.specs.declared.format.Format.{Format}
 use Rattle.zre_capture.specs.declared.format.Format.TheVariants.{First, Second}
 use Rattle.zre_capture.specs.declared.line_start.LineStart.{LineStart}
 use Rattle.zre_values.specs.declared.settings.Settings.{Settings}
-use Rattle.zre_capture.proofs.Parts.{between-cut, between-whole}
+use Rattle.zre_capture.proofs.TextParts.{between-cut, between-whole}
 
 -- ---- a line that is too long
 

@@ -8,7 +8,7 @@ use Rattle.std.proofs.lemmas.List.{take_more, take_more_set, take_all, length-se
 use Rattle.std.proofs.lemmas.List.Folds.{list_all-append}
 use Rattle.zre_capture.specs.DigitTable.{digit_row, pair_row}
 use Rattle.zre_capture.specs.Values.{is_lower_digit, hex_of}
-use Rattle.zre_capture.proofs.Spelled.{none_spec}
+use Rattle.zre_capture.proofs.FieldTexts.{none_spec}
 use Rattle.zre_capture.proofs.HexPairs.{value, pair_octets, value_below, are_pairs, are_pairs-true, pairs-some, some-pairs}
 
 abbrev lower : List ℕ → Bool
@@ -62,12 +62,12 @@ take-two xs n m e lt =
     ap (λ (k : ℕ). take k xs) to ∙ take_more xs (n + 1) 0 lt ∙ ap (λ (r : List ℕ). r ++ (get_or xs (n + 1) 0 ∷ [])) (take_more xs n 0 (omega (arith, lt)))
     ∙ append_assoc (take n xs) (get_or xs n 0 ∷ []) (get_or xs (n + 1) 0 ∷ [])
 
--- the first octets of a room are those of the pairs at the front, unless one of these isn't of digits, which shows in a
+-- the first octets of a buffer are those of the pairs at the front, unless one of these isn't of digits, which shows in a
 -- number
-pub record AreDecoded (digits room : List ℕ) (all i : ℕ) : Type 0 where
-  pub sized : length digits ≡ 2 * length room
+pub record AreDecoded (digits buffer : List ℕ) (all i : ℕ) : Type 0 where
+  pub sized : length digits ≡ 2 * length buffer
   pub fine : ltb all 256 ≡ list_all is_lower_digit (take (2 * i) digits)
-  pub octets : list_all is_lower_digit (take (2 * i) digits) ≡ true → take i room ≡ pair_octets (take (2 * i) digits)
+  pub octets : list_all is_lower_digit (take (2 * i) digits) ≡ true → take i buffer ≡ pair_octets (take (2 * i) digits)
 
 length-even : (xs : List ℕ) (i : ℕ) → 2 * i ≤ length xs → length (take (2 * i) xs) % 2 ≡ 0
 length-even xs i le = simp length-take (omega arith)
@@ -80,11 +80,11 @@ and-true false = refl
 lower-more : (s : List ℕ) (a b : ℕ) → lower (s ++ (a ∷ b ∷ [])) ≡ (lower s && (is_lower_digit a && is_lower_digit b))
 lower-more s a b = list_all-append is_lower_digit s (a ∷ b ∷ []) ∙ ap (λ (t : Bool). lower s && (is_lower_digit a && t)) (and-true (is_lower_digit b))
 
-pub decoded-none : (digits room : List ℕ) → length digits ≡ 2 * length room → AreDecoded digits room 0 0
-decoded-none digits room size = record { sized = size; fine = refl; octets = λ h. refl }
+pub decoded-none : (digits buffer : List ℕ) → length digits ≡ 2 * length buffer → AreDecoded digits buffer 0 0
+decoded-none digits buffer size = record { sized = size; fine = refl; octets = λ h. refl }
 
-pub decoded-more : (digits room : List ℕ) (all i n : ℕ) → AreDecoded digits room all i → i < length room → n ≡ pair_row digits i → AreDecoded digits (set room i (n % 256)) (bit_or all n) (i + 1)
-decoded-more digits room all i n so_far lt pair =
+pub decoded-more : (digits buffer : List ℕ) (all i n : ℕ) → AreDecoded digits buffer all i → i < length buffer → n ≡ pair_row digits i → AreDecoded digits (set buffer i (n % 256)) (bit_or all n) (i + 1)
+decoded-more digits buffer all i n so_far lt pair =
     let a = get_or digits (2 * i) 0 in
     let b = get_or digits (2 * i + 1) 0 in
     let front = take (2 * i) digits in
@@ -92,30 +92,30 @@ decoded-more digits room all i n so_far lt pair =
     let cut : take (2 * (i + 1)) digits ≡ front ++ (a ∷ b ∷ []) = take-two digits (2 * i) (2 * (i + 1)) (omega arith) (omega (arith, lt, size)) in
     let more : lower (take (2 * (i + 1)) digits) ≡ (lower front && (is_lower_digit a && is_lower_digit b)) = ap lower cut ∙ lower-more front a b in
     record {
-      sized = size ∙ ap (λ (m : ℕ). 2 * m) (sym (length-set room i (n % 256)));
+      sized = size ∙ ap (λ (m : ℕ). 2 * m) (sym (length-set buffer i (n % 256)));
       fine = or-small all n ∙ ap (λ (t : Bool). t && ltb n 256) so_far.fine ∙ ap (λ (t : Bool). lower front && t) (pair-small a b n pair) ∙ sym more;
       octets = λ h.
           let p = and_parts (lower front) (is_lower_digit a && is_lower_digit b) (sym more ∙ h) in
           let q = and_parts (is_lower_digit a) (is_lower_digit b) p.1 in
           let octet : n % 256 ≡ value a * 16 + value b = omega (arith, pair, row-digit a q.0, row-digit b q.1, value_below a q.0, value_below b q.1) in
-          take_more_set room i (n % 256) lt ∙ ap (λ (r : List ℕ). r ++ ((n % 256) ∷ [])) (so_far.octets p.0) ∙ ap (λ (o : ℕ). pair_octets front ++ (o ∷ [])) octet
+          take_more_set buffer i (n % 256) lt ∙ ap (λ (r : List ℕ). r ++ ((n % 256) ∷ [])) (so_far.octets p.0) ∙ ap (λ (o : ℕ). pair_octets front ++ (o ∷ [])) octet
           ∙ sym (octets-more front a b (length-even digits i (omega (arith, lt, size)))) ∙ ap pair_octets (sym cut);
     }
 
 -- four pairs at once
-pub decoded-four : (digits room : List ℕ) (all i a b c d : ℕ) → AreDecoded digits room all i → i + 4 ≤ length room → a ≡ pair_row digits i → b ≡ pair_row digits (i + 1) → c ≡ pair_row digits (i + 2) → d ≡ pair_row digits (i + 3)
-    → AreDecoded digits (set (set (set (set room i (a % 256)) (i + 1) (b % 256)) (i + 2) (c % 256)) (i + 3) (d % 256)) (bit_or (bit_or (bit_or (bit_or all a) b) c) d) (i + 4)
-decoded-four digits room all i a b c d so_far le pa pb pc pd =
-    let r1 = set room i (a % 256) in
+pub decoded-four : (digits buffer : List ℕ) (all i a b c d : ℕ) → AreDecoded digits buffer all i → i + 4 ≤ length buffer → a ≡ pair_row digits i → b ≡ pair_row digits (i + 1) → c ≡ pair_row digits (i + 2) → d ≡ pair_row digits (i + 3)
+    → AreDecoded digits (set (set (set (set buffer i (a % 256)) (i + 1) (b % 256)) (i + 2) (c % 256)) (i + 3) (d % 256)) (bit_or (bit_or (bit_or (bit_or all a) b) c) d) (i + 4)
+decoded-four digits buffer all i a b c d so_far le pa pb pc pd =
+    let r1 = set buffer i (a % 256) in
     let r2 = set r1 (i + 1) (b % 256) in
     let r3 = set r2 (i + 2) (c % 256) in
-    let l1 : length r1 ≡ length room = length-set room i (a % 256) in
-    let l2 : length r2 ≡ length room = length-set r1 (i + 1) (b % 256) ∙ l1 in
-    let l3 : length r3 ≡ length room = length-set r2 (i + 2) (c % 256) ∙ l2 in
+    let l1 : length r1 ≡ length buffer = length-set buffer i (a % 256) in
+    let l2 : length r2 ≡ length buffer = length-set r1 (i + 1) (b % 256) ∙ l1 in
+    let l3 : length r3 ≡ length buffer = length-set r2 (i + 2) (c % 256) ∙ l2 in
     let two : i + 1 + 1 ≡ i + 2 = omega arith in
     let three : i + 2 + 1 ≡ i + 3 = omega arith in
     let four : i + 3 + 1 ≡ i + 4 = omega arith in
-    let d1 = decoded-more digits room all i a so_far (omega (arith, le)) pa in
+    let d1 = decoded-more digits buffer all i a so_far (omega (arith, le)) pa in
     let d2 = decoded-more digits r1 (bit_or all a) (i + 1) b d1 (omega (arith, le, l1)) pb in
     let d3 = decoded-more digits r2 (bit_or (bit_or all a) b) (i + 2) c (subst (AreDecoded digits r2 (bit_or (bit_or all a) b)) two d2) (omega (arith, le, l2)) pc in
     let d4 = decoded-more digits r3 (bit_or (bit_or (bit_or all a) b) c) (i + 3) d (subst (AreDecoded digits r3 (bit_or (bit_or (bit_or all a) b) c)) three d3) (omega (arith, le, l3)) pd in
@@ -130,8 +130,8 @@ pub unpaired : (s : List ℕ) → (s ≡ codes "-" → ⊥) → (length s ≡ 0)
 unpaired s dash (inl none) = sym (no-pairs s dash (false_from_ne_true _ (λ e. let p = are_pairs-true s e in omega (arith, p.some, none))))
 unpaired s dash (inr odd) = sym (no-pairs s dash (false_from_ne_true _ (λ e. let p = are_pairs-true s e in absurd (odd p.even))))
 
-pub decoded-all : (digits room : List ℕ) (all i : ℕ) → AreDecoded digits room all i → length room ≤ i → 0 < length room → cond (ltb all 256) (Some room) None ≡ hex_of digits
-decoded-all digits room all i so_far end some =
+pub decoded-all : (digits buffer : List ℕ) (all i : ℕ) → AreDecoded digits buffer all i → length buffer ≤ i → 0 < length buffer → cond (ltb all 256) (Some buffer) None ≡ hex_of digits
+decoded-all digits buffer all i so_far end some =
     let size = so_far.sized in
     let whole : take (2 * i) digits ≡ digits = take_all (2 * i) digits (omega (arith, size, end)) in
     let is : ltb all 256 ≡ lower digits = so_far.fine ∙ ap lower whole in
@@ -140,10 +140,10 @@ decoded-all digits room all i so_far end some =
     elim (cases_Bool (lower digits)) [
       | inl digit ↦
           let pairs : are_pairs digits ≡ true = and_from _ _ (eq-eqb (length digits % 2) 0 even) (and_from _ _ (lt-ltb 0 (length digits) has) digit) in
-          let same : room ≡ pair_octets digits = sym (take_all i room end) ∙ so_far.octets (ap lower whole ∙ digit) ∙ ap pair_octets whole in
-          ap (λ (t : Bool). cond t (Some room) None) (is ∙ digit) ∙ ap Some same ∙ sym (pairs-some digits pairs)
+          let same : buffer ≡ pair_octets digits = sym (take_all i buffer end) ∙ so_far.octets (ap lower whole ∙ digit) ∙ ap pair_octets whole in
+          ap (λ (t : Bool). cond t (Some buffer) None) (is ∙ digit) ∙ ap Some same ∙ sym (pairs-some digits pairs)
       | inr other ↦
           let not_pairs : are_pairs digits ≡ false = false_from_ne_true _ (λ e. let d = (are_pairs-true digits e).digits in absurd cc) in
           let dash : digits ≡ codes "-" → ⊥ = λ e. let one : length digits ≡ 1 = ap length e in omega (arith, one, even) in
-          ap (λ (t : Bool). cond t (Some room) None) (is ∙ other) ∙ sym (no-pairs digits dash not_pairs)
+          ap (λ (t : Bool). cond t (Some buffer) None) (is ∙ other) ∙ sym (no-pairs digits dash not_pairs)
     ]

@@ -6,7 +6,7 @@ use Rattle.zre_capture.specs.Journal.{line_of, lines_in, next, entries_from, set
 use Rattle.zre_capture.specs.declared.format.Format.{Format}
 use Rattle.zre_capture.specs.declared.line_start.LineStart.{LineStart}
 use Rattle.zre_values.specs.declared.settings.Settings.{Settings}
-use Rattle.zre_capture.proofs.Lines.{entries-good, entries-bad}
+use Rattle.zre_capture.proofs.LineByLine.{entries-good, entries-bad}
 
 -- parts after parts: the first of these goes on with the last of those
 abbrev joined : List (List ℕ) → List (List ℕ) → List (List ℕ)
