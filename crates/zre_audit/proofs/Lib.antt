@@ -1,16 +1,16 @@
-pub mod Births
-pub mod Codes
-pub mod Counted
-pub mod Firsts
-pub mod Judged
-pub mod Lines
-pub mod Loops
-pub mod Ordered
-pub mod Pairing
-pub mod Places
-pub mod Pushes
-mod Rows
-pub mod Runs
+pub mod BirthsSeenOutside
+pub mod CodesArePrefixFree
+pub mod CountedMessages
+pub mod FirstTooMany
+pub mod JudgedIsAgreed
+pub mod LinesOfLinks
+pub mod LoopsOverLists
+pub mod OrderedPrefixes
+pub mod RunsHaveLinks
+pub mod PlacesForAll
+pub mod PushesOfEntries
+mod WorkedLists
+pub mod RunsOfOnePeer
 pub mod SilentMarks
-pub mod Told
-pub mod Watching
+pub mod ToldIsSaid
+pub mod WatchAfterEntry

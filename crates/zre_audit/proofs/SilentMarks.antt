@@ -30,7 +30,7 @@ use Rattle.zre_journal.proofs.NumberedLists.{All-join}
 use Rattle.zre_audit.specs.Coding.{octets_of, code}
 use Rattle.zre_audit.specs.Exchanged.{peer_on}
 use Rattle.zre_audit.specs.Seen.{is_connect}
-use Rattle.zre_audit.proofs.Told.{code-last}
+use Rattle.zre_audit.proofs.ToldIsSaid.{code-last}
 
 -- nobody is born; no run begins; nothing is said
 abbrev pub BearsNone : Mark → Type 0

@@ -22,7 +22,7 @@ use Rattle.zre_net.specs.Lists.{nth, numbers_from}
 use Rattle.zre_net.specs.Numbers.{CarriedConn, conns}
 use Rattle.zre_net.specs.Running.{StandsAfter}
 use Rattle.zre_net.specs.Sender.{Keeps, spelled}
-use Rattle.zre_net.proofs.Listing.{sum_same}
+use Rattle.zre_net.proofs.ListsCountedFromOne.{sum_same}
 
 sum-mapped : (ms : List Message) → sum_by (λ o. length o) (map octets ms) ≡ sum_by (λ m. length (octets m)) ms
 sum-mapped [] = refl

@@ -5,7 +5,7 @@ use Rattle.std.specs.List.{AllByRecursion}
 use Rattle.zre_peer.specs.Ledger.{IsNear}
 use Rattle.zre_net.specs.Agreement.{ledger_of, IsWithinWindow, CarryFew}
 use Rattle.zre_net.specs.History.{Happening}
-use Rattle.zre_net.proofs.Listing.{some_one, in_reach}
+use Rattle.zre_net.proofs.ListsCountedFromOne.{some_one, in_reach}
 
 got_low : (picks : List ℕ) (n pick : ℕ) → AllByRecursion (λ k. k ≤ 65535) picks → slice_get picks n ≡ Some pick → pick ≤ 65535
 got_low [] n pick a e = absurd cc

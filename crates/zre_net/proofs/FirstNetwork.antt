@@ -9,7 +9,7 @@ use Rattle.zre_net.specs.Lines.{octets_in}
 use Rattle.zre_net.specs.Lists.{nth}
 use Rattle.zre_net.specs.Rows.{running_at, has_node, fits_owner, with_running}
 use Rattle.zre_net.specs.Running.{AreStarted, AreConns, StandsAfter}
-use Rattle.zre_net.proofs.Listing.{got_same, got_other}
+use Rattle.zre_net.proofs.ListsCountedFromOne.{got_same, got_other}
 
 none_at : (k n : ℕ) → running_at n (replicate k None) ≡ None
 none_at zero n = refl

@@ -1,41 +1,41 @@
-pub mod Agreed
-mod Agreeing
+pub mod SchedulesAgree
+mod NodesAgree
 mod RunningNodes
-mod Asked
+mod RunningNodeOfNumber
 mod FirstNetwork
-mod Carrying
-mod Computed
-mod Connecting
+mod CarriedOctets
+mod ComputedExamples
+mod ConnectionsAfterEntry
 mod OnePiece
-mod Cutting
-mod ReadSides
+mod FirstFields
+mod CompletedByMore
 mod LinkPerEntry
-pub mod Fielded
-mod LinksGrow
-pub mod Handing
-mod Hearing
-mod Journals
-mod Lines
-mod Listing
+pub mod FieldsOfStarts
+mod LinksOnlyGrow
+pub mod HandedOutEvents
+mod ReadSideAfterEntry
+mod JournalsOfIncarnations
+mod TextLineByLine
+mod ListsCountedFromOne
 pub mod TooLongText
-mod Looking
-mod Moving
-mod Opened
-mod Opening
-mod Pending
-mod Piecing
-mod Plays
-mod Putting
-mod Quiet
-mod LeftToTell
+mod LooksAtLinks
+mod ConnectionsAfterMoves
+mod OpenedAfterEntry
+mod OpeningConnections
+mod NothingWaitsUnnumbered
+mod OctetsByPart
+mod MovesWithEntries
+mod PutOnLinks
+mod MovesWithoutEntries
+mod RestOfEvents
 mod CountedOctets
-pub mod Runs
+pub mod MovesInTurn
 mod SameMarksWhenCut
-mod Sending
-pub mod Sent
+mod LinksAfterEntry
+pub mod NodeAndLinksAfterEntry
 mod FewMessages
-mod Starting
-mod Staying
-mod Stepping
-mod Texts
-mod Rows
+mod NodesStartAndGo
+mod RowsStandForSame
+mod NodesAfterEntry
+mod TextsStay
+mod RowsOfLinks

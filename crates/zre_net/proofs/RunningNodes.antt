@@ -4,7 +4,7 @@ use Rattle.std.specs.Prelude.{slice_get, slice_set}
 use Rattle.zre_net.specs.declared.running.rows.Started.{Started}
 use Rattle.zre_net.specs.Lists.{nth}
 use Rattle.zre_net.specs.Rows.{running_at, with_running, same_number, is_at, has_node, OnlyRunning}
-use Rattle.zre_net.proofs.Listing.{kept, in_reach, nth_more, nth_at, nth_same, nth_other, nth_cases}
+use Rattle.zre_net.proofs.ListsCountedFromOne.{kept, in_reach, nth_more, nth_at, nth_same, nth_other, nth_cases}
 use Rattle.zre_journal.proofs.NumberedLists.{eqb-comm}
 
 -- a row is written whose node is there

@@ -4,7 +4,7 @@ use Rattle.std.specs.List.{onto_first}
 use Rattle.std.proofs.lemmas.Bool.{leb-true, leb-false}
 use Rattle.std.proofs.lemmas.List.Splits.{slice_split-cons_yes, slice_split-cons_no}
 use Rattle.zre_net.specs.Reading.{parts_in, is_line, says, bad_from, bad_line}
-use Rattle.zre_net.proofs.Lines.{bad_of, some_parts}
+use Rattle.zre_net.proofs.TextLineByLine.{bad_of, some_parts}
 
 -- the parts of a text after octets of its first line
 abbrev prefixed : List ℕ → List (List ℕ) → List (List ℕ)

@@ -19,7 +19,7 @@ abbrev pub bad_move_after : ℕ → List Move → List Happening → Option ℕ
 bad_move_after line [] H = None
 bad_move_after line (m ∷ ms) H = if is_good m H then bad_move_after (line + 1) ms (with_move m H) else Some line
 
--- The same of a schedule. The head is line 1.
+-- the line of the first move of a schedule that is outside the grammar; the head is line 1
 abbrev pub bad_move : List Move → Option ℕ
 bad_move s = bad_move_after 2 s []
 

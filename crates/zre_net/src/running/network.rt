@@ -175,8 +175,8 @@ impl Network {
 
 // Makes room for the row at this place. Nothing runs in a row that is new.
 fn make_room(rows: &mut Vec<Option<u64>>, place: usize) -> Result<(), OutOfMemory>
-    ensures same { (node : ℕ) → running_at node rows.new.items ≡ running_at node rows.old.items }
-    ensures room { OnOk result (place < length rows.new.items) }
+    ensures unchanged { (node : ℕ) → running_at node rows.new.items ≡ running_at node rows.old.items }
+    ensures there_is_a_place { OnOk result (place < length rows.new.items) }
 {
     'room: while rows.len() <= place {
         rows.push(None)?;

@@ -36,7 +36,7 @@ impl Network {
         // One comes at least, if any is to; the others still wait.
         ensures few { IfOk result (λ count. count ≤ most) }
         ensures some { 0 < most → IfOk result (λ count. 0 < count) }
-        ensures rest { IfOk result (λ count. has_waiting (most - count) (nth_of conn self.new.conns.items) ≡ true) }
+        ensures waiting { IfOk result (λ count. has_waiting (most - count) (nth_of conn self.new.conns.items) ≡ true) }
         // What comes is a piece.
         ensures come { (H : List Happening) (c : CarriedConn) →
             StandsAfter H self.old → nth_of conn (conns H) ≡ Some c →

@@ -74,7 +74,7 @@ impl Network {
     // So many events are handed out in place of those that stand there.
     fn hand_out(&mut self, handed: u64, told: &mut SaidEvents)
         ensures told { told.new ≡ self.old.said }
-        ensures rest { (H : List Happening) → StandsAfter H self.old → handed ≡ self.old.handed + length self.old.said →
+        ensures left { (H : List Happening) → StandsAfter H self.old → handed ≡ self.old.handed + length self.old.said →
             StandsAfter H self.new × (self.new.said ≡ []) }
     {
         told.clear();

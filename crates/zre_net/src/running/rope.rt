@@ -176,7 +176,7 @@ fn is_joined(octets: &[u8], parts: &[Bytes]) -> bool
     rest.is_empty()
 }
 
-// The same parts once more.
+// A list of its own that shares the octets of the parts.
 fn share_all(alloc: Global, parts: &[Bytes]) -> Result<List<Bytes>, OutOfMemory>
     ensures { IfOk result (λ now. now ≡ parts.now) }
 {

@@ -43,7 +43,7 @@ fn refill(front: &mut Bytes, parts: &mut VecDeque<Bytes>)
     requires { All HasOctets parts.old.items }
     ensures parts { All HasOctets parts.new.items }
     // The octets are the same. Where there are any, the front has some.
-    ensures same { front.new ++ joined parts.new.items ≡ front.old ++ joined parts.old.items }
+    ensures unchanged { front.new ++ joined parts.new.items ≡ front.old ++ joined parts.old.items }
     ensures some { HasOctets (front.new ++ joined parts.new.items) → HasOctets front.new }
 {
     if !front.is_empty() {
@@ -113,7 +113,7 @@ impl Waiting {
         ensures next { IfOk result (λ b. b ≡ take (length b) self.old) }
         ensures few { IfOk result (λ b. length b ≤ most) }
         ensures some { 0 < most → HasOctets self.old → IfOk result (λ b. HasOctets b) }
-        ensures rest { IfOk result (λ b. self.new ≡ drop (length b) self.old) }
+        ensures dropped { IfOk result (λ b. self.new ≡ drop (length b) self.old) }
     {
         refill(&mut self.front, &mut self.parts);
         let count = most.min(self.front.len() as u64);

@@ -1,6 +1,6 @@
 use Rattle.std.proofs.Common.{ℕ, List, map, Bor, rules, ◌∙◌}
 use Rattle.std.proofs.lemmas.List.Sorted.{IsPartitionPoint-from_clause}
-use Rattle.zre_audit.proofs.Ordered.{counted-map, parts-map, below_parts, up_to_parts, below, up_to}
+use Rattle.zre_audit.proofs.OrderedPrefixes.{counted-map, parts-map, below_parts, up_to_parts, below, up_to}
 use Rattle.zre_audit.proofs.counting.count_begun.Goals as goal
 
 pub returns : goal.returns

@@ -2,7 +2,7 @@ use Rattle.std.proofs.Common.{◌≡◌, false, ◌||◌, nat_eq, ap, sym, ◌�
 use Rattle.std.specs.Ordering.{nat_cmp, is_lt}
 use Rattle.std.specs.Cmp.Lexicographic.{slice_cmp}
 use Rattle.zre_audit.specs.Prefixes.{begins}
-use Rattle.zre_audit.proofs.Ordered.{begins-is}
+use Rattle.zre_audit.proofs.OrderedPrefixes.{begins-is}
 use Rattle.zre_audit.proofs.counting.is_up_to.Goals as goal
 
 pub returns-else-is_below : goal.returns-else-is_below

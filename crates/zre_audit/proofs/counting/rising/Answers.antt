@@ -1,6 +1,6 @@
 use Rattle.std.proofs.Common.{◌≡◌, ℕ, List, Bor, map, ◌∙◌, take_all, subst, IsPermutation}
 use Rattle.std.proofs.lemmas.List.Sorted.{IsPermutation-map}
-use Rattle.zre_audit.proofs.Ordered.{rises-map}
+use Rattle.zre_audit.proofs.OrderedPrefixes.{rises-map}
 use Rattle.zre_audit.proofs.counting.rising.Goals as goal
 
 pub returns : goal.returns

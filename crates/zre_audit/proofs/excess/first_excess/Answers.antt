@@ -1,6 +1,6 @@
 use Rattle.std.proofs.Common.{ℕ, List, Bor, map, nat_eq, sym, ◌∙◌}
 use Rattle.zre_audit.specs.Prefixes.{begun}
-use Rattle.zre_audit.proofs.Firsts.{one_here, none_here, in_any_order}
+use Rattle.zre_audit.proofs.FirstTooMany.{one_here, none_here, in_any_order}
 use Rattle.zre_audit.proofs.excess.first_excess.Goals as goal
 
 pub returns-then-fewer-more : goal.returns-then-fewer-more

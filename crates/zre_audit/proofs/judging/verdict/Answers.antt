@@ -1,8 +1,8 @@
 use Rattle.std.proofs.Common.{ℕ, sym, ap, ◌∙◌, option_map}
 use Rattle.zre_audit.specs.declared.excess.Excess.{Excess}
 use Rattle.zre_audit.specs.declared.verdicts.Verdict.TheVariants.{Yes}
-use Rattle.zre_audit.proofs.Judged.{yes_agree}
-use Rattle.zre_audit.proofs.Watching.{first_found, first_judged, second_judged, yes_judged, is_right}
+use Rattle.zre_audit.proofs.JudgedIsAgreed.{yes_agree}
+use Rattle.zre_audit.proofs.WatchAfterEntry.{first_found, first_judged, second_judged, yes_judged, is_right}
 use Rattle.zre_audit.proofs.judging.verdict.Goals as goal
 
 abbrev numbers : Excess → ℕ × ℕ × ℕ

@@ -4,7 +4,7 @@ use Rattle.zre_values.specs.declared.settings.Settings.{Settings as Config}
 use Rattle.zre_audit.specs.Agreement.{Agree, IsTooMany, Judges, judged}
 use Rattle.zre_audit.specs.declared.verdicts.Verdict.{Verdict}
 use Rattle.zre_audit.specs.declared.verdicts.Verdict.TheVariants.{Yes, No}
-use Rattle.zre_audit.proofs.Judged.{judged_right, not_both}
+use Rattle.zre_audit.proofs.JudgedIsAgreed.{judged_right, not_both}
 use Rattle.zre_audit.proofs.laws.a_run_is_too_many_where_journals_disagree.Goals as goal
 
 module _ (g k : Config) (J K : List Entry) where

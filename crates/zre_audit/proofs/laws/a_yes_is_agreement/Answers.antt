@@ -1,4 +1,4 @@
-use Rattle.zre_audit.proofs.Pairing.{yes_is_agreement, yes_is_written}
+use Rattle.zre_audit.proofs.RunsHaveLinks.{yes_is_agreement, yes_is_written}
 use Rattle.zre_audit.proofs.laws.a_yes_is_agreement.Goals as goal
 
 pub returns-clause-judged : goal.returns-clause-judged

@@ -1,6 +1,6 @@
 use Rattle.std.proofs.Common.{ap, sym, ◌∙◌, is_some}
 use Rattle.zre_audit.specs.Told.{at_last}
-use Rattle.zre_audit.proofs.Runs.{changed, found}
+use Rattle.zre_audit.proofs.RunsOfOnePeer.{changed, found}
 use Rattle.zre_audit.proofs.peer_runs.append.Goals as goal
 
 pub returns-in_ok-append_last : goal.returns-in_ok-append_last

@@ -1,5 +1,5 @@
 use Rattle.std.proofs.Common.{◌∙◌, arith}
-use Rattle.zre_audit.proofs.Runs.{last_set}
+use Rattle.zre_audit.proofs.RunsOfOnePeer.{last_set}
 use Rattle.zre_audit.proofs.peer_runs.append_last.Goals as goal
 
 pub returns-in_ok-append_at : goal.returns-in_ok-append_at

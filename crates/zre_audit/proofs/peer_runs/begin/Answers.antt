@@ -1,6 +1,6 @@
 use Rattle.std.proofs.Common.{[], ◌∷◌, ◌++◌, None, ap, sym, ◌∙◌, subst, is_some}
 use Rattle.zre_audit.specs.Told.{Runs}
-use Rattle.zre_audit.proofs.Runs.{Changes, changed, found}
+use Rattle.zre_audit.proofs.RunsOfOnePeer.{Changes, changed, found}
 use Rattle.zre_audit.proofs.peer_runs.begin.Goals as goal
 
 pub returns-in-Some : goal.returns-in-Some

@@ -1,6 +1,6 @@
 use Rattle.std.proofs.Common.{map, ap, ◌∙◌, take_all}
 use Rattle.zre_audit.specs.Kept.{count_on}
-use Rattle.zre_audit.proofs.Counted.{counts_are}
+use Rattle.zre_audit.proofs.CountedMessages.{counts_are}
 use Rattle.zre_audit.proofs.put.all_counts.Goals as goal
 
 pub returns : goal.returns

@@ -1,5 +1,5 @@
 use Rattle.std.proofs.Common.{sym}
-use Rattle.zre_audit.proofs.Counted.{count_one, count_none}
+use Rattle.zre_audit.proofs.CountedMessages.{count_one, count_none}
 use Rattle.zre_audit.proofs.put.count_to.Goals as goal
 use Rattle.zre_audit.proofs.put.count_to.Goals.{in-Some+in_ok-push, in_default}
 

@@ -1,5 +1,5 @@
 use Rattle.std.proofs.Common.{ap, sym, ◌∙◌, arith, slice_set}
-use Rattle.zre_audit.proofs.Lines.{placed_set, placed_none, noted_at}
+use Rattle.zre_audit.proofs.LinesOfLinks.{placed_set, placed_none, noted_at}
 use Rattle.zre_audit.proofs.put.note_at.Goals as goal
 
 pub returns-then-at-len : goal.returns-then-at-len

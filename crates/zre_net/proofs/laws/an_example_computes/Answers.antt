@@ -1,4 +1,4 @@
-use Rattle.zre_net.proofs.Computed.{tells}
+use Rattle.zre_net.proofs.ComputedExamples.{tells}
 use Rattle.zre_net.proofs.laws.an_example_computes.Goals as goal
 
 pub returns : goal.returns

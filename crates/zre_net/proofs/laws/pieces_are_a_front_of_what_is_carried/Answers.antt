@@ -1,6 +1,6 @@
 use Rattle.zre_net.specs.Reading.{moves_of}
-use Rattle.zre_net.proofs.Agreed.{hand_in_order}
-use Rattle.zre_net.proofs.Fielded.{are_fielded}
+use Rattle.zre_net.proofs.SchedulesAgree.{hand_in_order}
+use Rattle.zre_net.proofs.FieldsOfStarts.{are_fielded}
 use Rattle.zre_net.proofs.laws.pieces_are_a_front_of_what_is_carried.Goals as goal
 
 pub returns : goal.returns

@@ -1,4 +1,4 @@
-use Rattle.zre_shared.proofs.Joining.{joined}
+use Rattle.zre_shared.proofs.FramesOneByOne.{joined}
 use Rattle.zre_shared.proofs.laws.a_welcome_joins_tables.Goals as goal
 
 pub returns : goal.returns

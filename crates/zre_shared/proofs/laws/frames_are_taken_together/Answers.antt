@@ -1,4 +1,4 @@
-use Rattle.zre_shared.proofs.Joining.{taken}
+use Rattle.zre_shared.proofs.FramesOneByOne.{taken}
 use Rattle.zre_shared.proofs.laws.frames_are_taken_together.Goals as goal
 
 pub returns : goal.returns

@@ -1,4 +1,4 @@
-use Rattle.zre_shared.proofs.Forms.{write_of-some}
+use Rattle.zre_shared.proofs.FramesOfWrites.{write_of-some}
 use Rattle.zre_shared.proofs.laws.frames_are_written.Goals as goal
 
 pub returns : goal.returns

@@ -1,4 +1,4 @@
-use Rattle.zre_shared.proofs.Tabling.{rising-table}
+use Rattle.zre_shared.proofs.TableIsOneList.{rising-table}
 use Rattle.zre_shared.proofs.laws.rising_writes_are_a_table.Goals as goal
 
 pub returns : goal.returns

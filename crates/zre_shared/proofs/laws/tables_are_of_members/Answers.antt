@@ -1,4 +1,4 @@
-use Rattle.zre_shared.proofs.Tabling.{members-public}
+use Rattle.zre_shared.proofs.TableIsOneList.{members-public}
 use Rattle.zre_shared.proofs.laws.tables_are_of_members.Goals as goal
 
 pub returns : goal.returns

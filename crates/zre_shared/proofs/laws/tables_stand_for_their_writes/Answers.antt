@@ -1,4 +1,4 @@
-use Rattle.zre_shared.proofs.Tabling.{table-left}
+use Rattle.zre_shared.proofs.TableIsOneList.{table-left}
 use Rattle.zre_shared.proofs.laws.tables_stand_for_their_writes.Goals as goal
 
 pub returns : goal.returns

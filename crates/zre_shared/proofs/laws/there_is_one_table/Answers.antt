@@ -1,7 +1,7 @@
 use Rattle.std.proofs.Common.{sym, subst, List}
 use Rattle.zre_shared.specs.declared.write.Write.{Write}
 use Rattle.zre_shared.specs.Tables.{table, IsTableOf}
-use Rattle.zre_shared.proofs.Tabling.{public-from, from-public, is-table, tables}
+use Rattle.zre_shared.proofs.TableIsOneList.{public-from, from-public, is-table, tables}
 use Rattle.zre_shared.proofs.laws.there_is_one_table.Goals as goal
 
 pub returns : goal.returns

@@ -1,4 +1,4 @@
-use Rattle.zre_shared.proofs.Forms.{write_of-text}
+use Rattle.zre_shared.proofs.FramesOfWrites.{write_of-text}
 use Rattle.zre_shared.proofs.laws.writes_are_read.Goals as goal
 
 pub returns : goal.returns

@@ -1,5 +1,5 @@
 use Rattle.std.proofs.Common.{sym, arith}
-use Rattle.zre_shared.proofs.Lengths.{too-long}
+use Rattle.zre_shared.proofs.FrameLengths.{too-long}
 use Rattle.zre_shared.proofs.reading.short.Goals as goal
 
 pub returns-then-field-most : goal.returns-then-field-most

@@ -1,5 +1,5 @@
 use Rattle.std.proofs.Common.{rules, ℕ, ◌<◌, List, get_or, subst}
-use Rattle.zre_shared.proofs.Keeping.{octets-all}
+use Rattle.zre_shared.proofs.MapKeepsTable.{octets-all}
 use Rattle.zre_shared.proofs.replica.of_octets.Goals as goal
 
 pub returns-clause-fits : goal.returns-clause-fits

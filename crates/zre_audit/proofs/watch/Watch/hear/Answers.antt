@@ -2,7 +2,7 @@ use Rattle.std.proofs.Common.{List, ℕ, ap, ◌∙◌}
 use Rattle.zre_audit.specs.Kept.{lines_with}
 use Rattle.zre_audit.specs.Seen.{born_with}
 use Rattle.zre_audit.specs.Told.{runs_in, runs_after}
-use Rattle.zre_audit.proofs.Watching.{heard_then, put_then}
+use Rattle.zre_audit.proofs.WatchAfterEntry.{heard_then, put_then}
 use Rattle.zre_audit.proofs.watch.Watch.hear.Goals as goal
 
 pub returns : goal.returns

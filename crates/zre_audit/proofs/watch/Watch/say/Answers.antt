@@ -3,7 +3,7 @@ use Rattle.zre_node.specs.Asked.{sent_after}
 use Rattle.zre_journal.specs.Events.{chronicle}
 use Rattle.zre_audit.specs.Kept.{all_noted, risen, reached, counts_of}
 use Rattle.zre_audit.specs.Told.{runs_in, runs_after}
-use Rattle.zre_audit.proofs.Watching.{heard_then, said_then}
+use Rattle.zre_audit.proofs.WatchAfterEntry.{heard_then, said_then}
 use Rattle.zre_audit.proofs.watch.Watch.say.Goals as goal
 
 pub returns : goal.returns

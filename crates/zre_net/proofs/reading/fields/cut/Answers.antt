@@ -1,4 +1,4 @@
-use Rattle.zre_net.proofs.Cutting.{cut-found}
+use Rattle.zre_net.proofs.FirstFields.{cut-found}
 use Rattle.zre_net.proofs.reading.fields.cut.Goals as goal
 
 pub returns : goal.returns

@@ -1,7 +1,7 @@
 use Rattle.std.proofs.Common.{◌+◌, Bool, cond, Some, None, length, sym, ap, ◌∙◌, arith}
 use Rattle.std.proofs.lemmas.Bool.{OnTrue_at}
 use Rattle.zre_net.specs.Reading.{parts_in, bad_from}
-use Rattle.zre_net.proofs.Lines.{bad-cut, bad-end}
+use Rattle.zre_net.proofs.TextLineByLine.{bad-cut, bad-end}
 use Rattle.zre_net.proofs.reading.lines.bad_line.Goals as goal
 
 pub returns-then-not-branch : goal.returns-then-not-branch

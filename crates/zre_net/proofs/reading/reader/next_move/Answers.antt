@@ -1,6 +1,6 @@
 use Rattle.std.proofs.Common.{sym, ap, ◌∙◌}
 use Rattle.zre_net.specs.Reading.{lines_in, moves_in, with_first}
-use Rattle.zre_net.proofs.Lines.{moves-cut, moves-whole}
+use Rattle.zre_net.proofs.TextLineByLine.{moves-cut, moves-whole}
 use Rattle.zre_net.proofs.reading.reader.next_move.Goals as goal
 
 pub returns-in-Some-2 : goal.returns-in-Some-2

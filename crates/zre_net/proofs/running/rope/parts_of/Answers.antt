@@ -1,7 +1,7 @@
 use Rattle.std.proofs.Common.{◌∙◌, ◌+◌, ◌-◌, ◌++◌, ◌∷◌, [], ap, arith, take, drop, length}
 use Rattle.std.proofs.lemmas.List.{length-drop, take_all}
 use Rattle.zre_net.specs.Lists.{joined}
-use Rattle.zre_net.proofs.Texts.{part_more, joined_more}
+use Rattle.zre_net.proofs.TextsStay.{part_more, joined_more}
 use Rattle.zre_net.proofs.running.rope.parts_of.Goals as goal
 
 pub parts-preserved : goal.parts-preserved

@@ -1,8 +1,8 @@
 use Rattle.std.proofs.Common.{◌≡◌, ◌++◌, ◌∙◌, ap, sym}
 use Rattle.std.proofs.lemmas.Bool.{OnTrue_at}
 use Rattle.zre_net.specs.Said.{said}
-use Rattle.zre_net.proofs.Handing.{said_on}
-use Rattle.zre_net.proofs.Runs.{goes_first, none_came, next_stops, next_comes, all_came}
+use Rattle.zre_net.proofs.HandedOutEvents.{said_on}
+use Rattle.zre_net.proofs.MovesInTurn.{goes_first, none_came, next_stops, next_comes, all_came}
 use Rattle.zre_net.proofs.running.schedule.run.Goals as goal
 
 pub lines-init : goal.lines-init

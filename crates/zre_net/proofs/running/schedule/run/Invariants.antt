@@ -1,7 +1,7 @@
 use Rattle.std.proofs.Common.{◌≡◌, length}
 use Rattle.zre_net.specs.Running.{Goes}
 use Rattle.zre_net.specs.Said.{said}
-use Rattle.zre_net.proofs.Runs.{Partly}
+use Rattle.zre_net.proofs.MovesInTurn.{Partly}
 use Rattle.zre_net.proofs.running.schedule.run.Given as goal
 
 abbrev pub invariant-lines : goal.invariant-lines

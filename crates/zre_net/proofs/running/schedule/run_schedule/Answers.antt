@@ -3,9 +3,9 @@ use Rattle.std.specs.Prelude.{OnOk}
 use Rattle.std.specs.List.{AllByRecursion}
 use Rattle.zre_net.specs.Agreement.{IsAgreed}
 use Rattle.zre_net.specs.Said.{said as said_by}
-use Rattle.zre_net.proofs.Agreed.{ran_agreed}
-use Rattle.zre_net.proofs.Carrying.{MayStart}
-use Rattle.zre_net.proofs.Fielded.{are_fielded}
+use Rattle.zre_net.proofs.SchedulesAgree.{ran_agreed}
+use Rattle.zre_net.proofs.CarriedOctets.{MayStart}
+use Rattle.zre_net.proofs.FieldsOfStarts.{are_fielded}
 use Rattle.zre_net.proofs.running.schedule.run_schedule.Goals as goal
 
 pub returns-clause-agreed : goal.returns-clause-agreed

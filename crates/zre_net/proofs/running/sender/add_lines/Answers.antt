@@ -1,4 +1,4 @@
-use Rattle.zre_net.proofs.Sending.{one_line}
+use Rattle.zre_net.proofs.LinksAfterEntry.{one_line}
 use Rattle.zre_net.proofs.running.sender.add_lines.Goals as goal
 
 pub loop-act-preserved : goal.loop-act-preserved

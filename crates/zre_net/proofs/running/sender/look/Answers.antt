@@ -1,6 +1,6 @@
 use Rattle.std.proofs.Common.{◌∙◌}
 use Rattle.zre_journal.specs.Events.{chronicle}
-use Rattle.zre_net.proofs.Looking.{none_yet, looks_more, looks_end}
+use Rattle.zre_net.proofs.LooksAtLinks.{none_yet, looks_more, looks_end}
 use Rattle.zre_net.proofs.running.sender.look.Goals as goal
 
 pub loop-link-init : goal.loop-link-init

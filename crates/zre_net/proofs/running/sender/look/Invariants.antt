@@ -3,7 +3,7 @@ use Rattle.zre_outside.specs.declared.entry.Entry.{Entry}
 use Rattle.zre_values.specs.declared.settings.Settings.{Settings as Config}
 use Rattle.zre_journal.specs.Events.{chronicle}
 use Rattle.zre_node.specs.Journal.{StandsFor}
-use Rattle.zre_net.proofs.Looking.{Progress}
+use Rattle.zre_net.proofs.LooksAtLinks.{Progress}
 use Rattle.zre_net.proofs.running.sender.look.Given as goal
 
 abbrev pub invariant-loop-link : goal.invariant-loop-link

@@ -1,6 +1,6 @@
 use Rattle.std.proofs.Common.{arith}
 use Rattle.zre_values.proofs.Answered.{on_ok}
-use Rattle.zre_net.proofs.Looking.{look_seen}
+use Rattle.zre_net.proofs.LooksAtLinks.{look_seen}
 use Rattle.zre_net.proofs.running.sender.look_at.Goals as goal
 
 pub returns : goal.returns

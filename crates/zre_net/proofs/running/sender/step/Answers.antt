@@ -1,6 +1,6 @@
 use Rattle.std.proofs.Common.{◌++◌, ◌∷◌, [], ◌∙◌, ap, replicate}
 use Rattle.zre_net.specs.Lines.{connects, fresh}
-use Rattle.zre_net.proofs.Sent.{sends_one}
+use Rattle.zre_net.proofs.NodeAndLinksAfterEntry.{sends_one}
 use Rattle.zre_net.proofs.running.sender.step.Goals as goal
 
 pub returns : goal.returns

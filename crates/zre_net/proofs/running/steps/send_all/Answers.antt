@@ -1,5 +1,5 @@
 use Rattle.zre_net.specs.Rows.{sent_in}
-use Rattle.zre_net.proofs.Stepping.{one_more}
+use Rattle.zre_net.proofs.NodesAfterEntry.{one_more}
 use Rattle.zre_net.proofs.running.steps.send_all.Goals as goal
 
 pub loop-act-preserved : goal.loop-act-preserved

@@ -1,4 +1,4 @@
-use Rattle.zre_net.proofs.Stepping.{tell_more}
+use Rattle.zre_net.proofs.NodesAfterEntry.{tell_more}
 use Rattle.zre_net.proofs.running.steps.tell.Goals as goal
 
 pub loop-event-preserved : goal.loop-event-preserved

@@ -1,5 +1,5 @@
 use Rattle.std.proofs.Common.{[], ◌∷◌, refl, sym, ◌∙◌}
-use Rattle.zre_shared.proofs.Forms.{next, last, first_field, two_fields, three_fields, four_fields, of_fields, other_word, too_many, five}
+use Rattle.zre_shared.proofs.FramesOfWrites.{next, last, first_field, two_fields, three_fields, four_fields, of_fields, other_word, too_many, five}
 use Rattle.zre_shared.proofs.reading.Fields.of.Goals as goal
 
 pub returns-in_err-word : goal.returns-in_err-word

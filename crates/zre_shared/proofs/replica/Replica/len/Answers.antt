@@ -1,7 +1,7 @@
 use Rattle.std.proofs.Common.{subst}
 use Rattle.zre_shared.specs.Replicas.{HeldWrites}
-use Rattle.zre_shared.proofs.Keeping.{rising}
-use Rattle.zre_shared.proofs.Members.{Rising}
+use Rattle.zre_shared.proofs.MapKeepsTable.{rising}
+use Rattle.zre_shared.proofs.RisingKeys.{Rising}
 use Rattle.zre_shared.proofs.replica.Replica.len.Goals as goal
 
 pub returns-clause-rising : goal.returns-clause-rising

@@ -4,7 +4,7 @@ use Rattle.zre_values.specs.PlainId.{IsPeerId}
 use Rattle.zre_shared.specs.declared.write.Write.{Write}
 use Rattle.zre_shared.specs.declared.write.TheConstants.{KEY_OCTETS, VALUE_OCTETS}
 use Rattle.zre_shared.specs.Writes.{IsWrite}
-use Rattle.zre_shared.proofs.Keeping.{octets-all}
+use Rattle.zre_shared.proofs.MapKeepsTable.{octets-all}
 use Rattle.zre_shared.proofs.replica.Replica.make.Goals as goal
 
 -- a write of octets that were copied

@@ -1,5 +1,5 @@
 use Rattle.std.proofs.Common.{◌∙◌}
-use Rattle.zre_shared.proofs.Keeping.{adds, replaces, put-kept, put-held}
+use Rattle.zre_shared.proofs.MapKeepsTable.{adds, replaces, put-kept, put-held}
 use Rattle.zre_shared.proofs.replica.Replica.put.Goals as goal
 
 pub invariant_of-self : goal.invariant_of-self

@@ -1,4 +1,4 @@
-use Rattle.zre_shared.proofs.Keeping.{next-greater}
+use Rattle.zre_shared.proofs.MapKeepsTable.{next-greater}
 use Rattle.zre_shared.proofs.replica.Replica.set.Goals as goal
 
 pub frame-requires : goal.frame-requires

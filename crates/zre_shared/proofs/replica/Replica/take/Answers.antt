@@ -1,5 +1,5 @@
 use Rattle.std.proofs.Common.{sym, ◌∙◌}
-use Rattle.zre_shared.proofs.Forms.{write_of-some}
+use Rattle.zre_shared.proofs.FramesOfWrites.{write_of-some}
 use Rattle.zre_shared.proofs.replica.Replica.take.Goals as goal
 
 pub put-requires : goal.put-requires

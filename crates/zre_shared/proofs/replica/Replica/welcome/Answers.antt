@@ -4,9 +4,9 @@ use Rattle.std.specs.Map.{values_of}
 use Rattle.std.proofs.lemmas.Result.{IfOk-weaker}
 use Rattle.zre_shared.specs.Replicas.{HeldWrites}
 use Rattle.zre_shared.specs.Writes.{IsWrite}
-use Rattle.zre_shared.proofs.Keeping.{held-fits}
-use Rattle.zre_shared.proofs.Lengths.{frame-short}
-use Rattle.zre_shared.proofs.Welcoming.{started, stepped, fits-next, welcomed}
+use Rattle.zre_shared.proofs.MapKeepsTable.{held-fits}
+use Rattle.zre_shared.proofs.FrameLengths.{frame-short}
+use Rattle.zre_shared.proofs.FramesOfTables.{started, stepped, fits-next, welcomed}
 use Rattle.zre_shared.proofs.replica.Replica.welcome.Goals as goal
 
 pub loop-write-init : goal.loop-write-init

@@ -1,4 +1,4 @@
-use Rattle.zre_shared.proofs.Welcoming.{Welcoming}
+use Rattle.zre_shared.proofs.FramesOfTables.{Welcoming}
 use Rattle.zre_shared.proofs.replica.Replica.welcome.Given as goal
 
 abbrev pub invariant-loop-write : goal.invariant-loop-write

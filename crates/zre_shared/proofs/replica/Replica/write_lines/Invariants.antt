@@ -1,5 +1,5 @@
 use Rattle.std.proofs.Common.{◌≤◌}
-use Rattle.zre_shared.proofs.Written.{HasCome}
+use Rattle.zre_shared.proofs.LinesWritten.{HasCome}
 use Rattle.zre_shared.proofs.replica.Replica.write_lines.Given as goal
 
 abbrev pub invariant-loop-write : goal.invariant-loop-write

@@ -1,7 +1,7 @@
 use Rattle.std.proofs.Common.{ap, ◌∙◌}
 use Rattle.std.proofs.lemmas.Result.{IfOk-weaker}
 use Rattle.zre_shared.specs.Writes.{write_of}
-use Rattle.zre_shared.proofs.Forms.{write_of-text}
+use Rattle.zre_shared.proofs.FramesOfWrites.{write_of-text}
 use Rattle.zre_shared.proofs.write.Write.frame.Goals as goal
 
 pub returns-clause-again : goal.returns-clause-again

@@ -1,8 +1,8 @@
 use Rattle.std.proofs.Common.{◌∙◌, ap, sym}
 use Rattle.zre_net.specs.Lines.{messages_at}
 use Rattle.zre_net.specs.Lists.{nth}
-use Rattle.zre_net.proofs.Rows.{one_read, none_read}
-use Rattle.zre_net.proofs.Sent.{if_ok}
+use Rattle.zre_net.proofs.RowsOfLinks.{one_read, none_read}
+use Rattle.zre_net.proofs.NodeAndLinksAfterEntry.{if_ok}
 use Rattle.zre_net.proofs.running.lines.Lines.message.Goals as goal
 
 pub returns-in-Some-nth : goal.returns-in-Some-nth

@@ -1,7 +1,7 @@
 use Rattle.std.proofs.Common.{◌∙◌, Some, ap, sym, arith}
 use Rattle.zre_net.specs.Lines.{octets_in}
-use Rattle.zre_net.proofs.Listing.{there}
-use Rattle.zre_net.proofs.Rows.{lines_stay, set_there, set_counted, noted_at}
+use Rattle.zre_net.proofs.ListsCountedFromOne.{there}
+use Rattle.zre_net.proofs.RowsOfLinks.{lines_stay, set_there, set_counted, noted_at}
 use Rattle.zre_net.proofs.running.lines.Lines.note.Goals as goal
 
 pub invariant_of-self : goal.invariant_of-self

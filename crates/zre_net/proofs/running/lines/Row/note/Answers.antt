@@ -1,7 +1,7 @@
 use Rattle.std.proofs.Common.{◌∙◌, ap, sym, subst, arith, drop, refl}
 use Rattle.zre_net.specs.Texts.{AreThere}
-use Rattle.zre_net.proofs.Texts.{all_stay, one_there}
-use Rattle.zre_net.proofs.Rows.{none_noted, one_noted, one_counted}
+use Rattle.zre_net.proofs.TextsStay.{all_stay, one_there}
+use Rattle.zre_net.proofs.RowsOfLinks.{none_noted, one_noted, one_counted}
 use Rattle.zre_net.proofs.running.lines.Row.note.Goals as goal
 
 pub returns-then-sent-count-clause-noted : goal.returns-then-sent-count-clause-noted

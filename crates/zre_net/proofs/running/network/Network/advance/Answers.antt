@@ -1,7 +1,7 @@
 use Rattle.std.proofs.Common.{subst, true, Bool}
 use Rattle.zre_net.specs.Running.{IsPlayed}
 use Rattle.zre_net.specs.Comes.{with_move}
-use Rattle.zre_net.proofs.Runs.{taken}
+use Rattle.zre_net.proofs.MovesInTurn.{taken}
 use Rattle.zre_net.proofs.running.network.Network.advance.Goals as goal
 
 pub returns-then-branch : goal.returns-then-branch

@@ -2,9 +2,9 @@ use Rattle.std.proofs.Common.{◌+◌, ◌∙◌, Option, List, ℕ, ap, refl, s
 use Rattle.zre_net.specs.declared.moves.Move.TheVariants as move
 use Rattle.zre_net.specs.Lists.{nth}
 use Rattle.zre_net.specs.Rows.{IsSpelledAt}
-use Rattle.zre_net.proofs.Listing.{at_place, nth_at}
-use Rattle.zre_net.proofs.Plays.{refused}
-use Rattle.zre_net.proofs.Quiet.{carry_refused, carry_played}
+use Rattle.zre_net.proofs.ListsCountedFromOne.{at_place, nth_at}
+use Rattle.zre_net.proofs.MovesWithEntries.{refused}
+use Rattle.zre_net.proofs.MovesWithoutEntries.{carry_refused, carry_played}
 use Rattle.zre_net.proofs.running.network.Network.carry.Goals as goal
 
 pub returns-in_default-2 : goal.returns-in_default-2

@@ -1,6 +1,6 @@
 use Rattle.std.proofs.Common.{refl}
-use Rattle.zre_net.proofs.Listing.{at_place}
-use Rattle.zre_net.proofs.Quiet.{crash_played, crash_stands}
+use Rattle.zre_net.proofs.ListsCountedFromOne.{at_place}
+use Rattle.zre_net.proofs.MovesWithoutEntries.{crash_played, crash_stands}
 use Rattle.zre_net.proofs.running.network.Network.crash.Goals as goal
 
 pub returns : goal.returns

@@ -7,10 +7,10 @@ use Rattle.zre_net.specs.History.{Happens, incarnations, chronicle_of}
 use Rattle.zre_net.specs.Lists.{nth}
 use Rattle.zre_net.specs.Running.{AreNodes, StandsAfter}
 use Rattle.zre_net.specs.Sender.{is_slight}
-use Rattle.zre_net.proofs.Listing.{at_place}
-use Rattle.zre_net.proofs.Opening.{same_fields}
-use Rattle.zre_net.proofs.Piecing.{hand_stands, slight_now}
-use Rattle.zre_net.proofs.Plays.{still}
+use Rattle.zre_net.proofs.ListsCountedFromOne.{at_place}
+use Rattle.zre_net.proofs.OpeningConnections.{same_fields}
+use Rattle.zre_net.proofs.OctetsByPart.{hand_stands, slight_now}
+use Rattle.zre_net.proofs.MovesWithEntries.{still}
 use Rattle.zre_net.proofs.running.network.Network.hand.Goals as goal
 
 pub returns-clause-come : goal.returns-clause-come

@@ -2,7 +2,7 @@ use Rattle.std.proofs.Common.{◌≡◌, ◌-◌, arith, subst, ℕ}
 use Rattle.zre_net.specs.declared.moves.Move.TheVariants as move
 use Rattle.zre_net.specs.Comes.{with_move}
 use Rattle.zre_net.specs.Running.{StandsAfter}
-use Rattle.zre_net.proofs.Piecing.{hand_on}
+use Rattle.zre_net.proofs.OctetsByPart.{hand_on}
 use Rattle.zre_net.proofs.running.network.Network.hand_all.Goals as goal
 
 pub parts-init : goal.parts-init
@@ -10,7 +10,7 @@ parts-init c =
     let f = c.in_ok-left.ensures.few in
     let same : c.in_ok-left.field-0 ≡ c.args.count - (c.args.count - c.in_ok-left.field-0) = omega (arith, f) in record {
       few = omega arith;
-      rest = c.in_ok-left.ensures.rest;
+      rest = c.in_ok-left.ensures.waiting;
       come = λ H d s t e. subst (λ (k : ℕ). StandsAfter (with_move (move.Piece c.args.conn k c.args.at) H) c.hand.new.self) same (c.in_ok-left.ensures.come H d s t e);
     }
 
@@ -19,7 +19,7 @@ parts-preserved c =
     let i = c.parts.invariant in
     let f = c.in_ok-came.ensures.few in record {
       few = (let w = i.few in omega (arith, w, f));
-      rest = c.in_ok-came.ensures.rest;
+      rest = c.in_ok-came.ensures.waiting;
       come = λ H d s t e. hand_on H c.args.conn c.args.count c.parts.left c.in_ok-came.came c.args.at d c.args.self.now c.hand-in-parts.new.self s t i.few f
           (c.in_ok-came.ensures.come (with_move (move.Piece c.args.conn (c.args.count - c.parts.left) c.args.at) H) d (i.come H d s t e) t e);
     }

@@ -5,7 +5,7 @@ use Rattle.zre_net.specs.Comes.{turn_of}
 use Rattle.zre_net.specs.History.{Happens}
 use Rattle.zre_net.specs.Lists.{nth}
 use Rattle.zre_net.specs.Running.{StandsAfter}
-use Rattle.zre_net.proofs.Plays.{hears, still, kept}
+use Rattle.zre_net.proofs.MovesWithEntries.{hears, still, kept}
 use Rattle.zre_net.proofs.running.network.Network.hear.Goals as goal
 
 pub returns : goal.returns

@@ -2,7 +2,7 @@ use Rattle.std.proofs.Common.{◌&&◌, ◌∙◌, ap, ltb}
 use Rattle.std.specs.Prelude.{is_none}
 use Rattle.std.specs.List.{list_all}
 use Rattle.zre_net.specs.Rows.{running_at, fits_owner}
-use Rattle.zre_net.proofs.Starting.{may_start}
+use Rattle.zre_net.proofs.NodesStartAndGo.{may_start}
 use Rattle.zre_net.proofs.running.network.Network.may_start.Goals as goal
 
 pub returns : goal.returns

@@ -3,8 +3,8 @@ use Rattle.zre_net.specs.Comes.{history}
 use Rattle.zre_net.specs.History.{journal}
 use Rattle.zre_net.specs.Lists.{nth}
 use Rattle.zre_net.specs.Rows.{has_node}
-use Rattle.zre_net.proofs.Asked.{sends_for, is_live}
-use Rattle.zre_net.proofs.Plays.{not_running}
+use Rattle.zre_net.proofs.RunningNodeOfNumber.{sends_for, is_live}
+use Rattle.zre_net.proofs.MovesWithEntries.{not_running}
 use Rattle.zre_net.proofs.running.network.Network.node.Goals as goal
 
 pub returns-in_default-clause-there : goal.returns-in_default-clause-there

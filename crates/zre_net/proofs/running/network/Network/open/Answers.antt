@@ -1,8 +1,8 @@
 use Rattle.std.proofs.Common.{◌≡◌, ◌∙◌, ap, refl, arith, length}
 use Rattle.zre_net.specs.declared.moves.Move.TheVariants as move
 use Rattle.zre_net.specs.Lists.{nth}
-use Rattle.zre_net.proofs.Opening.{opens_played, same_fields}
-use Rattle.zre_net.proofs.Plays.{still}
+use Rattle.zre_net.proofs.OpeningConnections.{opens_played, same_fields}
+use Rattle.zre_net.proofs.MovesWithEntries.{still}
 use Rattle.zre_net.proofs.running.network.Network.open.Goals as goal
 
 pub returns : goal.returns

@@ -1,5 +1,5 @@
 use Rattle.std.proofs.Common.{◌∙◌, sym}
-use Rattle.zre_net.proofs.Piecing.{piece_refused, piece_played, waiting_is}
+use Rattle.zre_net.proofs.OctetsByPart.{piece_refused, piece_played, waiting_is}
 use Rattle.zre_net.proofs.running.network.Network.piece.Goals as goal
 
 pub returns-then-not-has_waiting : goal.returns-then-not-has_waiting

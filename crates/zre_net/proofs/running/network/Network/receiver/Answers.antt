@@ -1,6 +1,6 @@
 use Rattle.std.proofs.Common.{◌∙◌, ap, sym}
 use Rattle.zre_net.specs.Lists.{nth}
-use Rattle.zre_net.proofs.Plays.{receives_some, receives_gone}
+use Rattle.zre_net.proofs.MovesWithEntries.{receives_some, receives_gone}
 use Rattle.zre_net.proofs.running.network.Network.receiver.Goals as goal
 
 pub returns-then-is_there : goal.returns-then-is_there

@@ -1,6 +1,6 @@
 use Rattle.std.proofs.Common.{◌∙◌, ap, sym}
 use Rattle.zre_net.specs.Lists.{nth}
-use Rattle.zre_net.proofs.Plays.{sends_gone}
+use Rattle.zre_net.proofs.MovesWithEntries.{sends_gone}
 use Rattle.zre_net.proofs.running.network.Network.sender.Goals as goal
 
 pub returns-else-is_there : goal.returns-else-is_there

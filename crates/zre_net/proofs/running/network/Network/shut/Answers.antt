@@ -1,5 +1,5 @@
 use Rattle.zre_net.specs.declared.moves.Move.TheVariants as move
-use Rattle.zre_net.proofs.Plays.{shut_gone, shut_played, still, kept}
+use Rattle.zre_net.proofs.MovesWithEntries.{shut_gone, shut_played, still, kept}
 use Rattle.zre_net.proofs.running.network.Network.shut.Goals as goal
 
 pub returns-in_default : goal.returns-in_default

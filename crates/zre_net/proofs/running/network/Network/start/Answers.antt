@@ -1,8 +1,8 @@
 use Rattle.std.proofs.Common.{◌≡◌, ◌∙◌, Some, sym, refl, subst, arith, length}
 use Rattle.zre_net.specs.declared.moves.Move.TheVariants as move
 use Rattle.zre_net.specs.Rows.{with_running, IsBegun}
-use Rattle.zre_net.proofs.Plays.{refused, played}
-use Rattle.zre_net.proofs.Starting.{starts_stand, is_free}
+use Rattle.zre_net.proofs.MovesWithEntries.{refused, played}
+use Rattle.zre_net.proofs.NodesStartAndGo.{starts_stand, is_free}
 use Rattle.zre_net.proofs.running.network.Network.start.Goals as goal
 
 pub returns-then-not-may_start : goal.returns-then-not-may_start

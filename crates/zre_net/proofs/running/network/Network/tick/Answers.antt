@@ -1,7 +1,7 @@
 use Rattle.std.proofs.Common.{refl}
 use Rattle.zre_outside.specs.declared.entry.Input.TheVariants as input
 use Rattle.zre_net.specs.declared.moves.Move.TheVariants as move
-use Rattle.zre_net.proofs.Plays.{refused, not_running, plays_at, still, kept}
+use Rattle.zre_net.proofs.MovesWithEntries.{refused, not_running, plays_at, still, kept}
 use Rattle.zre_net.proofs.running.network.Network.tick.Goals as goal
 
 pub returns-in_default : goal.returns-in_default

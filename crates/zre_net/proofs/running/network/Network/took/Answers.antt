@@ -1,7 +1,7 @@
 use Rattle.std.proofs.Common.{refl}
 use Rattle.zre_outside.specs.declared.entry.Input.TheVariants as input
 use Rattle.zre_net.specs.declared.moves.Move.TheVariants as move
-use Rattle.zre_net.proofs.Plays.{link_refused, link_played, still, kept}
+use Rattle.zre_net.proofs.MovesWithEntries.{link_refused, link_played, still, kept}
 use Rattle.zre_net.proofs.running.network.Network.took.Goals as goal
 
 pub returns-in_default : goal.returns-in_default

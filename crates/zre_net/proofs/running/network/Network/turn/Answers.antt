@@ -4,8 +4,8 @@ use Rattle.zre_net.specs.Comes.{turn_of}
 use Rattle.zre_net.specs.History.{incarnations, chronicle_of}
 use Rattle.zre_net.specs.Lists.{nth}
 use Rattle.std.proofs.Common.{◌∷◌}
-use Rattle.zre_net.proofs.Connecting.{stands_more, on_all}
-use Rattle.zre_net.proofs.Hearing.{is_slight_too}
+use Rattle.zre_net.proofs.ConnectionsAfterEntry.{stands_more, on_all}
+use Rattle.zre_net.proofs.ReadSideAfterEntry.{is_slight_too}
 use Rattle.zre_net.proofs.running.network.Network.turn.Goals as goal
 
 pub returns : goal.returns

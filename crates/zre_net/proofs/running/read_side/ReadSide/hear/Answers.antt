@@ -1,6 +1,6 @@
 use Rattle.std.proofs.Common.{◌∙◌, ◌||◌, ap, refl}
 use Rattle.zre_mailbox.specs.Conn.{is_spent}
-use Rattle.zre_net.proofs.ReadSides.{deaf, heard}
+use Rattle.zre_net.proofs.CompletedByMore.{deaf, heard}
 use Rattle.zre_net.proofs.running.read_side.ReadSide.hear.Goals.{then-ignored-via-then-ignored, then-ignored-via-else-ignored+then-spent}
 use Rattle.zre_net.proofs.running.read_side.ReadSide.hear.Goals as goal
 

@@ -1,7 +1,7 @@
 use Rattle.std.proofs.Common.{◌≡◌, ◌∙◌, ap, sym, subst, length}
 use Rattle.std.proofs.lemmas.List.{length-map}
 use Rattle.zre_net.specs.Texts.{text_at, numbered}
-use Rattle.zre_net.proofs.Texts.{has_last}
+use Rattle.zre_net.proofs.TextsStay.{has_last}
 use Rattle.zre_net.proofs.running.texts.Texts.add.Goals as goal
 
 pub returns-clause-of : goal.returns-clause-of

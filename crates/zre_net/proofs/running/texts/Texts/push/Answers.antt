@@ -1,7 +1,7 @@
 use Rattle.std.proofs.Common.{◌∙◌, ap, map, ◌++◌, ◌∷◌, []}
 use Rattle.zre_values.proofs.Answered.{on_ok}
 use Rattle.zre_net.specs.Texts.{text_at}
-use Rattle.zre_net.proofs.Texts.{same_texts, more_texts, on_error}
+use Rattle.zre_net.proofs.TextsStay.{same_texts, more_texts, on_error}
 use Rattle.zre_net.proofs.running.texts.Texts.push.Goals as goal
 
 pub returns-clause-ok : goal.returns-clause-ok
