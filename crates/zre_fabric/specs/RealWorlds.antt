@@ -36,14 +36,14 @@ reading_of w = w.fabric.stopwatch.last
 
 -- the entries since the last look, and the commands since the last entry that isn't one
 abbrev pub entries_of : {R : Type 0} → RealWorld R → ℕ
-entries_of w = w.fabric.row.entries
+entries_of w = w.fabric.since_look.entries
 
 abbrev pub commands_of : {R : Type 0} → RealWorld R → ℕ
-commands_of w = w.fabric.row.commands
+commands_of w = w.fabric.since_look.commands
 
 -- the octets of the entries since the last look
 abbrev pub octets_of : {R : Type 0} → RealWorld R → ℕ
-octets_of w = w.fabric.row.octets
+octets_of w = w.fabric.since_look.octets
 
 -- neither the last turn, nor a count, nor the reading of its clock changed
 abbrev pub IsAsBefore : {R : Type 0} → RealWorld R → RealWorld R → Type 0

@@ -24,7 +24,7 @@ impl TcpConn {
     pub(crate) fn new(stream: TcpStream, addr: [u8; 4]) -> Self
         ensures stream { result.stream ≡ Some stream }
         ensures addr { result.addr ≡ addr }
-        ensures rest { (result.is_queued ≡ false) × (result.used ≡ 0) }
+        ensures idle { (result.is_queued ≡ false) × (result.used ≡ 0) }
     {
         TcpConn {
             stream: Some(stream),

@@ -186,7 +186,7 @@ impl<S: Source> Source for Heeding<S> {
             (S.taken (heeding_under self.old)) (S.taken (heeding_under self.new)) (take n buf.new)) }
         ensures ended { is_over self.new ≡ false → IfOk result (λ n. n ≡ 0 → IsAtEnd
             (S.left (heeding_under self.new))) }
-        ensures kept { OnErr result (Keeps (S.left (heeding_under self.old)) (S.left (heeding_under self.new))
+        ensures unchanged { OnErr result (Keeps (S.left (heeding_under self.old)) (S.left (heeding_under self.new))
             × Keeps (S.taken (heeding_under self.old)) (S.taken (heeding_under self.new))) }
     {
         if self.wait() {

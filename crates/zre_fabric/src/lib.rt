@@ -52,7 +52,7 @@
 //!
 //! Proved, beside safety: the contracts of `World`. A command comes back as the entry to do it, `looked` says whether
 //! the last turn was a look, and the count of faults rises in the calls that are answered with `Failed` and in no
-//! others. A look comes again after each command and after 64 entries, as said above (clauses `look` and `row` of
+//! others. A look comes again after each command and after 64 entries (clauses `look` and `since_look` of
 //! `next`). What a turn says of sockets is told by no clause (`told` is `None`), since no contract says what a system
 //! answers. Proved of the parts: the readings of the clock never fall, when a Tick is due and how long the poll waits,
 //! a token of the poll names its source, what comes of a connection or a link is an entry of just that one, and when

@@ -42,7 +42,7 @@ impl Pace {
             ≡ (if result then tick_after self.old.interval self.old.tick_at at else self.old.tick_at) }
         // The next one.
         ensures next { at < 2 ^ 64 - 1 → at < self.new.tick_at }
-        ensures same { (self.new.interval ≡ self.old.interval) × (self.new.look_at ≡ self.old.look_at) }
+        ensures unchanged { (self.new.interval ≡ self.old.interval) × (self.new.look_at ≡ self.old.look_at) }
     {
         if at < self.tick_at {
             return false;
@@ -59,7 +59,7 @@ impl Pace {
     /// A look was given. The next one is due 20 milliseconds later.
     pub(crate) fn gave_look(&mut self, at: u64)
         ensures look { self.new.look_at ≡ latest (at + 20) }
-        ensures same { (self.new.interval ≡ self.old.interval) × (self.new.tick_at ≡ self.old.tick_at) }
+        ensures unchanged { (self.new.interval ≡ self.old.interval) × (self.new.tick_at ≡ self.old.tick_at) }
     {
         self.look_at = at.saturating_add(LOOK_MILLIS);
     }
@@ -67,7 +67,7 @@ impl Pace {
     /// There may be a command: the next look is due at once.
     pub(crate) fn look_now(&mut self, at: u64)
         ensures look { self.new.look_at ≡ at }
-        ensures same { (self.new.interval ≡ self.old.interval) × (self.new.tick_at ≡ self.old.tick_at) }
+        ensures unchanged { (self.new.interval ≡ self.old.interval) × (self.new.tick_at ≡ self.old.tick_at) }
     {
         self.look_at = at;
     }

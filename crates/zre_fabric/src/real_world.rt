@@ -41,7 +41,7 @@ impl<R> RealWorld<R> {
         ensures looked { has_looked result ≡ false }
         ensures faults { faults_of result ≡ 0 }
         ensures clock { reading_of result ≡ 0 }
-        ensures row { (entries_of result ≡ 0) × (commands_of result ≡ 0) }
+        ensures since_look { (entries_of result ≡ 0) × (commands_of result ≡ 0) }
         ensures octets { octets_of result ≡ 0 }
     {
         RealWorld::with_bell(rt, alloc, None)
@@ -53,7 +53,7 @@ impl<R> RealWorld<R> {
         ensures looked { has_looked result ≡ false }
         ensures faults { faults_of result ≡ 0 }
         ensures clock { reading_of result ≡ 0 }
-        ensures row { (entries_of result ≡ 0) × (commands_of result ≡ 0) }
+        ensures since_look { (entries_of result ≡ 0) × (commands_of result ≡ 0) }
         ensures octets { octets_of result ≡ 0 }
     {
         RealWorld {
@@ -82,7 +82,7 @@ impl<R> RealWorld<R> {
         ensures one { result ≡ NextFault.Failed → faults_of self.new ≡ raised (faults_of self.old) }
         // The reason.
         ensures reason { result ≡ NextFault.Failed → IsSome (reason_of self.new) }
-        ensures same { (self.new.fabric ≡ self.old.fabric) × (self.new.looked ≡ self.old.looked) }
+        ensures unchanged { (self.new.fabric ≡ self.old.fabric) × (self.new.looked ≡ self.old.looked) }
     {
         let fault = network_fault.fault();
         self.faults = raise(self.faults, fault);
@@ -112,7 +112,7 @@ impl<R: Net> RealWorld<R> {
     /// Listens from now on at the address and the port of the mailbox that the world is to be started with. Where that
     /// can't be done nothing is said: the start tries again, and fails where it still can't.
     pub fn reserve(&mut self, at: Endpoint)
-        ensures same { IsAsBefore self.old self.new }
+        ensures unchanged { IsAsBefore self.old self.new }
         ensures reason { reason_of self.new ≡ reason_of self.old }
     {
         self.fabric.reserve(at);
@@ -139,7 +139,7 @@ impl<R: Net + Clock> World for RealWorld<R> {
         ensures faults { CountsFault result self.old self.new }
         // The clock, and what is counted since the last look.
         ensures clock { reading_of self.old ≤ reading_of self.new }
-        ensures row { (entries_of self.new ≡ 0) × (commands_of self.new ≡ 0) }
+        ensures since_look { (entries_of self.new ≡ 0) × (commands_of self.new ≡ 0) }
         ensures octets { octets_of self.new ≡ 0 }
     {
         match self.fabric.start(s) {
@@ -166,13 +166,13 @@ impl<R: Net + Clock> World for RealWorld<R> {
             → IfOk result (λ t. is_look t ≡ true) }
         ensures long { command ≡ None → nat_le 65536 (octets_of self.old) ≡ true → IfOk result (λ t. is_look t ≡ true) }
         ensures octets { IfOk result (λ t. octets_of self.new ≡ octets_after (octets_of self.old) t) }
-        ensures row { IfOk result (λ t. (entries_of self.new ≡ entries_after (entries_of self.old) t)
+        ensures since_look { IfOk result (λ t. (entries_of self.new ≡ entries_after (entries_of self.old) t)
             × (commands_of self.new ≡ commands_after (commands_of self.old) command t)) }
         // A call that is refused.
         ensures refused { OnErr result ((told_of self.new ≡ told_of self.old)
             × (has_looked self.new ≡ has_looked self.old)) }
         ensures faults { CountsFault result self.old self.new }
-        ensures kept { OnErr result ((entries_of self.new ≡ entries_of self.old)
+        ensures unchanged { OnErr result ((entries_of self.new ≡ entries_of self.old)
             × (commands_of self.new ≡ commands_of self.old) × (octets_of self.new ≡ octets_of self.old)) }
     {
         match self.fabric.next(command) {
@@ -189,7 +189,7 @@ impl<R: Net + Clock> World for RealWorld<R> {
         ensures ok { OnOk result (told_of self.new ≡ option_map (with_deed (DeedValue.Done act.now))
             (told_of self.old)) }
         ensures err { OnErr result (told_of self.new ≡ told_of self.old) }
-        ensures same { IsAsBefore self.old self.new }
+        ensures unchanged { IsAsBefore self.old self.new }
     {
         self.fabric.act(act)
     }
@@ -198,7 +198,7 @@ impl<R: Net + Clock> World for RealWorld<R> {
         ensures ok { OnOk result (told_of self.new ≡ option_map (with_deed (DeedValue.Offered link bytes.now))
             (told_of self.old)) }
         ensures err { OnErr result (told_of self.new ≡ told_of self.old) }
-        ensures same { IsAsBefore self.old self.new }
+        ensures unchanged { IsAsBefore self.old self.new }
     {
         self.fabric.offer(link, bytes)
     }

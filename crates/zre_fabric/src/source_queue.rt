@@ -58,7 +58,7 @@ impl SourceQueue {
     pub(crate) fn push(&mut self, source: EntrySource, weight: Weight) -> Result<(), OutOfMemory>
         ensures ok { OnOk result ((queue_of weight self.new).items ≡ (queue_of weight self.old).items ++ source ∷ []) }
         ensures err { OnErr result ((queue_of weight self.new).items ≡ (queue_of weight self.old).items) }
-        ensures same { (queue_of (other weight) self.new ≡ queue_of (other weight) self.old)
+        ensures unchanged { (queue_of (other weight) self.new ≡ queue_of (other weight) self.old)
             × (self.new.turns ≡ self.old.turns) }
     {
         match weight {
