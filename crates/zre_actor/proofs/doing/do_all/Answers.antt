@@ -1,7 +1,7 @@
 use Rattle.std.proofs.Common.{[], take, drop, true≢false, refl, sym, ◌∙◌, arith, append-nil}
 use Rattle.std.proofs.lemmas.List.{take-append-drop, take_all}
 use Rattle.zre_journal.specs.Events.{chronicle}
-use Rattle.zre_actor.proofs.Deeds.{went-none, did_more, take_next, due_at}
+use Rattle.zre_actor.proofs.DeedsOfActs.{went-none, did_more, take_next, due_at}
 use Rattle.zre_actor.proofs.doing.do_all.Goals as goal
 
 pub loop-act-init : goal.loop-act-init

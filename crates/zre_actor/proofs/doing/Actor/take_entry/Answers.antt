@@ -3,7 +3,7 @@ use mathlib.Core.Logic.{inl, inr}
 use Rattle.zre_journal.specs.Asked.{AreDue}
 use Rattle.zre_journal.specs.Events.{chronicle}
 use Rattle.zre_actor.specs.Work.{DoesAll}
-use Rattle.zre_actor.proofs.Taking.{went_on, left_undone, its_due}
+use Rattle.zre_actor.proofs.EntryIsTaken.{went_on, left_undone, its_due}
 use Rattle.zre_actor.proofs.doing.Actor.take_entry.Goals as goal
 
 pub returns-in-Err-clause-broke : goal.returns-in-Err-clause-broke

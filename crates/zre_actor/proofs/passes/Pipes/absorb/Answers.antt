@@ -1,8 +1,8 @@
 use Rattle.std.proofs.Common.{subst, sym}
 use Rattle.zre_actor.specs.Commands.{IsCaller}
 use Rattle.crossbeam_queue.specs.Passes.{view}
-use Rattle.zre_actor.proofs.Steps.{merges}
-use Rattle.zre_actor.proofs.Callers.{caller_joined}
+use Rattle.zre_actor.proofs.CommandPipeInvariant.{merges}
+use Rattle.zre_actor.proofs.CallersStay.{caller_joined}
 use Rattle.zre_actor.proofs.passes.Pipes.absorb.Goals as goal
 
 pub absorb-requires-clause-rule : goal.absorb-requires-clause-rule

@@ -4,10 +4,10 @@ use Rattle.crossbeam_channel.specs.Claims as channel
 use Rattle.std.specs.Vec.Iter.{into_iter_items}
 use Rattle.zre_actor.specs.Commands.{joined, Accounts, command_of}
 use Rattle.zre_actor.specs.Passes.{caller}
-use Rattle.zre_actor.proofs.Steps.{merges}
-use Rattle.zre_actor.proofs.EventSteps.{meets, learns_met}
+use Rattle.zre_actor.proofs.CommandPipeInvariant.{merges}
+use Rattle.zre_actor.proofs.EventPipeInvariant.{meets, learns_met}
 use Rattle.std.proofs.lemmas.List.{length-map}
-use Rattle.zre_actor.proofs.Finishing.{gathered_all, learns_all_put, gathered, gathered-snoc, fronts, each_prefix, all_left, all_ended}
+use Rattle.zre_actor.proofs.AllCallersGathered.{gathered_all, learns_all_put, gathered, gathered-snoc, fronts, each_prefix, all_left, all_ended}
 use Rattle.zre_actor.proofs.passes.Pipes.finish.Goals as goal
 
 pub absorb-requires-clause-rule : goal.absorb-requires-clause-rule

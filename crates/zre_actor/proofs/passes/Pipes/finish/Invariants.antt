@@ -1,7 +1,7 @@
 use Rattle.std.proofs.Common.{◌≡◌, ◌++◌}
 use Rattle.std.specs.Vec.Iter.{into_iter_items}
 use Rattle.crossbeam_queue.specs.Passes.{view, IsPassOf}
-use Rattle.zre_actor.proofs.Finishing.{gathered}
+use Rattle.zre_actor.proofs.AllCallersGathered.{gathered}
 use Rattle.zre_actor.proofs.passes.Pipes.finish.Given as goal
 
 abbrev pub invariant-loop-pass : goal.invariant-loop-pass

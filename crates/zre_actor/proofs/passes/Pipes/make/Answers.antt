@@ -1,9 +1,9 @@
 use Rattle.std.proofs.Common.{◌≡◌, ◌+◌, ◌-◌, ℕ, length, ap, ◌∙◌, arith}
 use Rattle.crossbeam_queue.specs.Passes.{view}
 use Rattle.zre_actor.specs.declared.views.CommandView.{CommandView}
-use Rattle.zre_actor.proofs.Steps.{begins}
-use Rattle.zre_actor.proofs.EventSteps.{hearing_begins, cuts}
-use Rattle.zre_actor.proofs.Rows.{length_row}
+use Rattle.zre_actor.proofs.CommandPipeInvariant.{begins}
+use Rattle.zre_actor.proofs.EventPipeInvariant.{hearing_begins, cuts}
+use Rattle.zre_actor.proofs.ConsecutiveNumbers.{length_row}
 use Rattle.zre_actor.proofs.passes.Pipes.make.Goals as goal
 
 pub ruled-requires-clause-rule : goal.ruled-requires-clause-rule

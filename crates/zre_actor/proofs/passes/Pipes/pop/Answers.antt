@@ -1,4 +1,4 @@
-use Rattle.zre_actor.proofs.Steps.{pops}
+use Rattle.zre_actor.proofs.CommandPipeInvariant.{pops}
 use Rattle.zre_actor.proofs.passes.Pipes.pop.Goals as goal
 
 pub pop_as-found-requires-clause-rule : goal.pop_as-found-requires-clause-rule

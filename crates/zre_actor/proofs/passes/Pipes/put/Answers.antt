@@ -1,8 +1,8 @@
 use Rattle.std.proofs.Common.{subst, sym}
 use Rattle.zre_actor.specs.Commands.{IsCaller}
 use Rattle.crossbeam_queue.specs.Passes.{view}
-use Rattle.zre_actor.proofs.Steps.{pushes}
-use Rattle.zre_actor.proofs.Callers.{caller_wrote}
+use Rattle.zre_actor.proofs.CommandPipeInvariant.{pushes}
+use Rattle.zre_actor.proofs.CallersStay.{caller_wrote}
 use Rattle.zre_actor.proofs.passes.Pipes.put.Goals as goal
 
 pub push_as-requires-clause-rule : goal.push_as-requires-clause-rule

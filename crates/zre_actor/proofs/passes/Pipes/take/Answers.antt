@@ -1,7 +1,7 @@
 use Rattle.std.proofs.Common.{subst, sym, ap, ◌∙◌}
 use Rattle.crossbeam_channel.specs.Claims.{IsSeatAt}
 use Rattle.zre_actor.specs.declared.views.EventView.{EventView}
-use Rattle.zre_actor.proofs.EventSteps.{receives}
+use Rattle.zre_actor.proofs.EventPipeInvariant.{receives}
 use Rattle.zre_actor.proofs.passes.Pipes.take.Goals as goal
 
 pub recv_as-requires-clause-channel : goal.recv_as-requires-clause-channel

@@ -1,6 +1,6 @@
 use Rattle.std.proofs.Common.{ap, ◌∙◌}
 use Rattle.zre_actor.specs.declared.views.EventView.{EventView}
-use Rattle.zre_actor.proofs.EventSteps.{sends}
+use Rattle.zre_actor.proofs.EventPipeInvariant.{sends}
 use Rattle.zre_actor.proofs.passes.Pipes.tell.Goals as goal
 
 pub send_as-requires-clause-channel : goal.send_as-requires-clause-channel

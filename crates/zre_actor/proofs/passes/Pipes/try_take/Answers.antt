@@ -1,6 +1,6 @@
 use Rattle.std.proofs.Common.{subst, sym}
 use Rattle.crossbeam_channel.specs.Claims.{IsSeatAt}
-use Rattle.zre_actor.proofs.EventSteps.{receives}
+use Rattle.zre_actor.proofs.EventPipeInvariant.{receives}
 use Rattle.zre_actor.proofs.passes.Pipes.try_take.Goals as goal
 
 pub try_recv_as-requires-clause-channel : goal.try_recv_as-requires-clause-channel

@@ -7,8 +7,8 @@ use Rattle.zre_outside.proofs.Rising.{rose_since}
 use Rattle.zre_actor.specs.declared.ending.Ending.TheVariants as ending
 use Rattle.zre_outside.specs.Refusals.{refused_after}
 use Rattle.zre_actor.specs.Work.{Broke, Went, scene, world_ending, is_world_fault, is_record_fault}
-use Rattle.zre_actor.proofs.Refused.{left_with, spared, world_refused, record_spared}
-use Rattle.zre_actor.proofs.Working as working
+use Rattle.zre_actor.proofs.RefusedCalls.{left_with, spared, world_refused, record_spared}
+use Rattle.zre_actor.proofs.WorkAfterTurns as working
 use Rattle.zre_actor.proofs.passes.Pipes.work.Goals as goal
 use Rattle.zre_actor.proofs.passes.Pipes.work.Goals.{in-Look, in-Look+else-turn-limit, in-Entry+in-Ok-take_entry}
 

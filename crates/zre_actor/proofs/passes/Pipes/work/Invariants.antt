@@ -5,7 +5,7 @@ use Rattle.zre_values.specs.declared.settings.Settings.{Settings as Config}
 use Rattle.zre_node.specs.Journal.{StandsFor}
 use Rattle.zre_actor.specs.Passes.{IsActorOf, unused_by, ending_of}
 use Rattle.zre_actor.specs.Work.{scene}
-use Rattle.zre_actor.proofs.Working.{Running}
+use Rattle.zre_actor.proofs.WorkAfterTurns.{Running}
 use Rattle.zre_actor.proofs.passes.Pipes.work.Given as goal
 
 abbrev pub invariant-loop-turn : goal.invariant-loop-turn

@@ -1,4 +1,4 @@
-use Rattle.zre_actor.proofs.Steps.{forks}
+use Rattle.zre_actor.proofs.CommandPipeInvariant.{forks}
 use Rattle.zre_actor.proofs.passes.make.new_caller.Goals as goal
 
 pub another-caller-requires-clause-rule : goal.another-caller-requires-clause-rule

@@ -6,7 +6,7 @@ use Rattle.zre_actor.specs.declared.views.CommandView.{CommandView}
 use Rattle.zre_actor.specs.Passes.{number, numbers_of, IsNew}
 use Rattle.zre_actor.specs.Commands as commands
 use Rattle.zre_actor.specs.Commands.{row, head_or}
-use Rattle.zre_actor.proofs.Rows.{row_snoc, row_left, length_row}
+use Rattle.zre_actor.proofs.ConsecutiveNumbers.{row_snoc, row_left, length_row}
 use Rattle.zre_actor.proofs.passes.make.new_callers.Goals as goal
 
 pub new_caller-requires-clause-unused : goal.new_caller-requires-clause-unused

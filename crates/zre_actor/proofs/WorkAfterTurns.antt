@@ -36,8 +36,8 @@ use Rattle.zre_actor.specs.declared.passes.ActorPass.{ActorPass}
 use Rattle.zre_actor.specs.Commands.{command_of}
 use Rattle.zre_actor.specs.Passes.{IsPopped}
 use Rattle.zre_actor.specs.Work.{WorkScene, scene, went, AreDeeds, acts_of, late, command_in, done_by, Goes, world_ending, Ends, KeptLines, QuitsLast, AllGo, IsWork, Went, IsRefusal, IsUnput, IsUnstepped, IsUndone, Broke}
-use Rattle.zre_actor.proofs.Quits.{NoQuit, quits_snoc, no_quit_more, no_quit}
-use Rattle.zre_actor.proofs.Deeds.{went-none, after_look, after_entry, AreDeeds-append, acts_of-snoc}
+use Rattle.zre_actor.proofs.QuitIsLast.{NoQuit, quits_snoc, no_quit_more, no_quit}
+use Rattle.zre_actor.proofs.DeedsOfActs.{went-none, after_look, after_entry, AreDeeds-append, acts_of-snoc}
 
 not_late : (turns limit : ℕ) (looked : Bool) → turns ≢ limit → late turns limit looked ≡ 0
 not_late turns limit looked ne = let differ : (turns == limit) ≡ false = ne_eqb turns limit ne in

@@ -4,8 +4,8 @@ use Rattle.zre_outside.specs.declared.entry.Command.{Command}
 use Rattle.zre_actor.specs.declared.views.Placed.{Placed}
 use Rattle.zre_actor.specs.declared.views.CommandView.{CommandView}
 use Rattle.zre_actor.specs.Commands.{times, under, live, head_or, written, wrote, joined, IsCaller}
-use Rattle.zre_actor.proofs.Sums.{times-append, under-append, under_other}
-use Rattle.zre_actor.proofs.Steps.{counts_live, own_once}
+use Rattle.zre_actor.proofs.SumsOverPasses.{times-append, under-append, under_other}
+use Rattle.zre_actor.proofs.CommandPipeInvariant.{counts_live, own_once}
 
 pub caller_wrote : (v : CommandView) (x : Command) → IsCaller v → IsCaller (wrote v x)
 caller_wrote v x c = let e : Placed = written v x in (

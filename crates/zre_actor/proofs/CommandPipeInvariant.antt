@@ -12,8 +12,8 @@ use Rattle.zre_actor.specs.declared.views.Placed.{Placed}
 use Rattle.zre_actor.specs.declared.views.CommandView.{CommandView}
 use Rattle.zre_actor.specs.Commands.{times, under, naming, Closed, total, among, live, numbers, Each, Kept, Rule, command_of, row, first, without_one, one_caller, joined, nobody, head_or, written, wrote, Reads, Accounts, HasAll, view}
 use Rattle.std.proofs.lemmas.Bool.Decides.{nat_tests}
-use Rattle.zre_actor.proofs.Counting.{all_there}
-use Rattle.zre_actor.proofs.Sums.{times-append, times_cut, under-append, under_other, naming-append, Closed-snoc, total_set, total_snoc, total_one, total_two, total_sum}
+use Rattle.zre_actor.proofs.CountsOverNumbers.{all_there}
+use Rattle.zre_actor.proofs.SumsOverPasses.{times-append, times_cut, under-append, under_other, naming-append, Closed-snoc, total_set, total_snoc, total_one, total_two, total_sum}
 
 each_set : (F : CommandView → Type 0) (views : List CommandView) (p : ℕ) (w : CommandView) → F w → ((q : ℕ) (u : CommandView) → q ≢ p → get_elem? views q ≡ some u → F u) → Each (set views p w) F
 each_set F views p w mine others q u at = ⊎_elim (λ (x : (q ≡ p) × (w ≡ u)). subst F x.1 mine) (λ (x : (q ≢ p) × (get_elem? views q ≡ some u)). others q u x.0 x.1) (at_set views p q w u at)

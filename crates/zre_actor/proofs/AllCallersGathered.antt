@@ -7,10 +7,10 @@ use Rattle.zre_actor.specs.declared.views.CommandView.{CommandView}
 use Rattle.zre_actor.specs.declared.passes.CallerPass.{CallerPass}
 use Rattle.zre_actor.specs.Commands.{times, under, Closed, live, numbers, joined, Accounts, IsActor, HasAll, Rule}
 use Rattle.zre_actor.specs.Passes.{caller, put_by, puts_of, live_of, how_many}
-use Rattle.zre_actor.proofs.Sums.{times-append, under-append}
+use Rattle.zre_actor.proofs.SumsOverPasses.{times-append, under-append}
 use Rattle.crossbeam_queue.specs.Fifo.{Learns}
-use Rattle.zre_actor.proofs.Steps.{counts, counts_live, accounts}
-use Rattle.zre_actor.proofs.Counting.{same_length}
+use Rattle.zre_actor.proofs.CommandPipeInvariant.{counts, counts_live, accounts}
+use Rattle.zre_actor.proofs.CountsOverNumbers.{same_length}
 
 -- the pass v after it took in the others
 abbrev pub gathered : CommandView → List CallerPass → CommandView

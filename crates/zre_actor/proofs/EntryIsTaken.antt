@@ -17,7 +17,7 @@ use Rattle.zre_capture.specs.Lines.{line}
 use Rattle.zre_capture.specs.declared.format.Format.TheVariants.{Second}
 use Rattle.zre_actor.specs.declared.ending.Ending.TheVariants as ending
 use Rattle.zre_actor.specs.Work.{AreDeeds, beside, DoesAll, Went, IsUndone}
-use Rattle.zre_actor.proofs.Deeds.{beside-append}
+use Rattle.zre_actor.proofs.DeedsOfActs.{beside-append}
 
 module _ (g : Config) (J : List Entry) (e : Entry) (keep : Bool) (before : ℕ) (told told' : Option Log) (kept kept' : Option (List ℕ)) (n : Node) (s : Step) (st : IsStep g J e n s) (k : keep ≡ true → Appends kept kept' (line Second before e)) where
   -- the acts of a step are those of its entry

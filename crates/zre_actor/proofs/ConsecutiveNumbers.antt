@@ -1,7 +1,7 @@
 -- Rows of numbers.
 use Rattle.std.proofs.Common.{◌≡◌, ℕ, zero, suc, ◌+◌, ◌-◌, ◌<◌, ◌≤◌, ◌==◌, Bool, true, false, cond, [], ◌∷◌, ◌++◌, length, refl, sym, ap, ◌∙◌, arith, add-one, ne_eqb}
 use Rattle.zre_actor.specs.Commands.{times, row}
-use Rattle.zre_actor.proofs.Sums.{times-append}
+use Rattle.zre_actor.proofs.SumsOverPasses.{times-append}
 
 pub row_snoc : (a k : ℕ) → row a (k + 1) ≡ row a k ++ (a + k) ∷ []
 row_snoc a zero = (let e : a ≡ a + 0 = omega arith in ap (λ n. n ∷ []) e)
