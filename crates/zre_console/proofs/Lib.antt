@@ -1,10 +1,10 @@
-pub mod Callers
-pub mod First
-pub mod Fronts
+pub mod CallerNumbers
+pub mod StatusIsFirstFailure
+pub mod CommandPrefixes
 pub mod LeastStatus
 pub mod NodeThread
-pub mod Parts
-pub mod Popped
+pub mod StatusOfParts
+pub mod PoppedCommands
 pub mod PreparingFailed
 pub mod SecondCaller
-pub mod Unstarted
+pub mod EndBeforeStart

@@ -46,7 +46,7 @@ use Rattle.zre_console.specs.Keeping.{head_of}
 use Rattle.zre_console.specs.Stages.{Prepared}
 use Rattle.zre_console.specs.Statuses.{of_print, of_work, of_thread}
 use Rattle.zre_console.proofs.LeastStatus.{memory_isnt}
-use Rattle.zre_console.proofs.Unstarted.{maps}
+use Rattle.zre_console.proofs.EndBeforeStart.{maps}
 
 module _ (g : Config) (start : Start) (name : Option (List ℕ)) (keep : Bool) (limit : ℕ) (s u t : Seen) (p : Prepared g start name keep s u)
     (n : Node) (how : Ending) (looked looked' : Bool) (actor actor' : ActorPass)

@@ -10,7 +10,7 @@ use Rattle.zre_commands.specs.declared.pump.status.Status.TheVariants.{WriteFaul
 use Rattle.zre_console.specs.Keeping.{head_of, Begins}
 use Rattle.zre_console.specs.Stages.{IsEarly, IsOutside, Unprepared}
 use Rattle.zre_console.specs.Statuses.{of_fault}
-use Rattle.zre_console.proofs.Unstarted.{none_started}
+use Rattle.zre_console.proofs.EndBeforeStart.{none_started}
 
 -- a refusal of the outside, whose failing comes to a status
 pub refused_early : (failed : Status) (f : NextFault) (desks worlds records : Type 0) → (f ≡ fault.Failed → IsEarly failed desks worlds records) → IsEarly (of_fault f failed) desks worlds records

@@ -11,8 +11,8 @@ use Rattle.zre_console.specs.declared.printer.asker.Wish.{Wish}
 use Rattle.zre_console.specs.declared.printer.asker.Wish.TheVariants.{No, Due, Put}
 use Rattle.zre_console.specs.printer.Asking.{asked, asker_of, HasAsked}
 use Rattle.zre_console.specs.printer.Printing.{HasPrinted}
-use Rattle.zre_console.proofs.reader.Puts.{puts-none}
-use Rattle.zre_console.proofs.Popped.{all_under}
+use Rattle.zre_console.proofs.reader.PutCommands.{puts-none}
+use Rattle.zre_console.proofs.PoppedCommands.{all_under}
 
 pub asked_few : (x : Wish) → (asked x ≡ []) ⊎ (asked x ≡ Quit ∷ [])
 asked_few No = inl refl

@@ -1,4 +1,4 @@
-pub mod Fields
-pub mod Pieces
-pub mod Quits
-pub mod Unfinished
+pub mod CommandByFields
+pub mod TypedPieces
+pub mod OrdersUpToQuit
+pub mod LinesOfPrefix

@@ -1,4 +1,4 @@
-pub mod Showing
-pub mod Writing
-pub mod Unrefused
-pub mod Trying
+pub mod PageShows
+pub mod PrintedLines
+pub mod AnsweredCall
+pub mod PageCalls

@@ -1,4 +1,4 @@
-pub mod Pieces
-pub mod Puts
-pub mod Reach
-pub mod Refused
+pub mod PutOfPieces
+pub mod PutCommands
+pub mod ReaderProgress
+pub mod RefusedReads

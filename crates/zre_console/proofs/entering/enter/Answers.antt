@@ -3,8 +3,8 @@ use Rattle.std.specs.Prelude.{Err}
 use mathlib.Core.Logic.{inl}
 use Rattle.zre_commands.specs.declared.pump.status.Status.TheVariants.{WorldFault}
 use Rattle.zre_console.proofs.PreparingFailed.{refused_early}
-use Rattle.zre_console.proofs.First.{fault_yields, world_unread}
-use Rattle.zre_console.proofs.Unstarted.{none_started}
+use Rattle.zre_console.proofs.StatusIsFirstFailure.{fault_yields, world_unread}
+use Rattle.zre_console.proofs.EndBeforeStart.{none_started}
 use Rattle.zre_console.proofs.entering.enter.Goals as goal
 
 pub returns-in-Err-clause-refused : goal.returns-in-Err-clause-refused

@@ -4,7 +4,7 @@ use Rattle.std.specs.Str.{is_utf8}
 use Rattle.std.proofs.lemmas.Str.{IsUtf8-from_is_utf8}
 use Rattle.zre_commands.specs.declared.pump.status.Status.TheVariants.{WriteFault}
 use Rattle.zre_console.proofs.PreparingFailed.{refused_early}
-use Rattle.zre_console.proofs.First.{fault_yields, write_unread}
+use Rattle.zre_console.proofs.StatusIsFirstFailure.{fault_yields, write_unread}
 use Rattle.zre_console.proofs.keeping.begin.Goals as goal
 
 pub unreachable-requires : goal.unreachable-requires

@@ -1,4 +1,4 @@
-use Rattle.zre_console.proofs.lines.Quits.{quit-ends}
+use Rattle.zre_console.proofs.lines.OrdersUpToQuit.{quit-ends}
 use Rattle.zre_console.proofs.lines.laws.quit_ends.Goals as goal
 
 pub returns : goal.returns

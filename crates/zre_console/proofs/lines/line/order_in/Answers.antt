@@ -1,5 +1,5 @@
 use Rattle.std.proofs.Common.{sym, ◌∙◌}
-use Rattle.zre_console.proofs.lines.Fields.{order-one, order-two, order-three}
+use Rattle.zre_console.proofs.lines.CommandByFields.{order-one, order-two, order-three}
 use Rattle.zre_console.proofs.lines.line.order_in.Goals as goal
 
 pub returns-in_default : goal.returns-in_default

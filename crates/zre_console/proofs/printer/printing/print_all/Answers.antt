@@ -4,8 +4,8 @@ use Rattle.std.proofs.Common.{⊎_elim}
 use Rattle.zre_actor.specs.Passes.{taken_by, last_of}
 use Rattle.zre_outside.proofs.Rising.{rose_since, rose_still}
 use Rattle.zre_console.specs.printer.Printing.{IsLast}
-use Rattle.zre_console.proofs.printer.Trying.{none_before}
-use Rattle.zre_console.proofs.printer.Writing.{has_printed}
+use Rattle.zre_console.proofs.printer.PageCalls.{none_before}
+use Rattle.zre_console.proofs.printer.PrintedLines.{has_printed}
 use Rattle.zre_console.proofs.printer.printing.print_all.Goals as goal
 
 pub loop-init : goal.loop-init

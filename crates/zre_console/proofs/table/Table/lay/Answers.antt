@@ -3,8 +3,8 @@ use Rattle.std.specs.Arc.{arc_value}
 use Rattle.std.proofs.lemmas.List.{length-map}
 use Rattle.zre_actor.specs.Commands.{times, row}
 use Rattle.zre_actor.specs.Passes.{IsActorOf, IsCallerOf, IsTakerOf, AreCallersOf, IsNew, number, numbers_of, fresh_of}
-use Rattle.zre_actor.proofs.Rows.{length_row}
-use Rattle.zre_console.proofs.Callers.{laid_apart, laid_many}
+use Rattle.zre_actor.proofs.ConsecutiveNumbers.{length_row}
+use Rattle.zre_console.proofs.CallerNumbers.{laid_apart, laid_many}
 use Rattle.zre_console.proofs.table.Table.lay.Goals as goal
 
 -- the two callers of new pipes are there

@@ -1,8 +1,8 @@
 use Rattle.std.proofs.Common.{[], refl, arith}
 use mathlib.Core.Logic.{inl}
 use Rattle.std.proofs.KnownBytes.{Appends-nil, Consumes-nil}
-use Rattle.zre_console.proofs.reader.Puts.{puts-none}
-use Rattle.zre_console.proofs.Unstarted.{nothing_begins}
+use Rattle.zre_console.proofs.reader.PutCommands.{puts-none}
+use Rattle.zre_console.proofs.EndBeforeStart.{nothing_begins}
 use Rattle.zre_console.proofs.talk.ReaderJobExcused.excuse.Goals as goal
 
 pub returns : goal.returns

@@ -1,5 +1,5 @@
 use Rattle.std.proofs.lemmas.Result.{err_from_is_err_and}
-use Rattle.zre_console.proofs.lines.Pieces.{amid-start, amid-line, amid-at, amid-out, all-taken, front-taken}
+use Rattle.zre_console.proofs.lines.TypedPieces.{amid-start, amid-line, amid-at, amid-out, all-taken, front-taken}
 use Rattle.zre_console.proofs.lines.typist.Typist.feed.Goals as goal
 
 pub lines-init : goal.lines-init

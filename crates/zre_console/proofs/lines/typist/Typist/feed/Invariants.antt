@@ -1,5 +1,5 @@
 use Rattle.std.proofs.Common.{length}
-use Rattle.zre_console.proofs.lines.Pieces.{IsAmid}
+use Rattle.zre_console.proofs.lines.TypedPieces.{IsAmid}
 use Rattle.zre_console.proofs.lines.typist.Typist.feed.Given as goal
 
 abbrev pub invariant-lines : goal.invariant-lines

@@ -1,6 +1,6 @@
 use Rattle.std.proofs.Common.{sym, ◌∙◌}
 use Rattle.zre_console.specs.lines.Typing.{unfinished}
-use Rattle.zre_console.proofs.lines.Pieces.{none-left, one-left}
+use Rattle.zre_console.proofs.lines.TypedPieces.{none-left, one-left}
 use Rattle.zre_console.proofs.lines.typist.Typist.finish.Goals as goal
 
 pub returns-then-has_nothing : goal.returns-then-has_nothing

@@ -1,4 +1,4 @@
-use Rattle.zre_console.proofs.printer.Trying.{then_tries}
+use Rattle.zre_console.proofs.printer.PageCalls.{then_tries}
 use Rattle.zre_console.proofs.printer.page.Page.close.Goals as goal
 
 pub returns-clause-tries : goal.returns-clause-tries

@@ -1,5 +1,5 @@
 use Rattle.std.proofs.Common.{sym, ◌∙◌}
-use Rattle.zre_console.proofs.printer.Showing.{none_of, missed, line_came, line_refused}
+use Rattle.zre_console.proofs.printer.PageShows.{none_of, missed, line_came, line_refused}
 use Rattle.zre_console.proofs.printer.page.Page.print.Goals as goal
 use Rattle.zre_capture.proofs.Lines.{none_is}
 

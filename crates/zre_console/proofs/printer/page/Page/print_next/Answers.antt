@@ -4,8 +4,8 @@ use Rattle.zre_actor.specs.declared.told.Told.{Told}
 use Rattle.zre_actor.specs.declared.told.Told.TheVariants as told
 use Rattle.zre_actor.specs.declared.passes.TakerPass.{TakerPass}
 use Rattle.zre_actor.specs.Passes.{IsTold, taken_by, last_of}
-use Rattle.zre_console.proofs.printer.Trying.{none_before, then_tries}
-use Rattle.zre_console.proofs.printer.Writing.{asked_more, printed_same, printed_more}
+use Rattle.zre_console.proofs.printer.PageCalls.{none_before, then_tries}
+use Rattle.zre_console.proofs.printer.PrintedLines.{asked_more, printed_same, printed_more}
 use Rattle.zre_console.proofs.printer.page.Page.print_next.Goals as goal
 
 abbrev Found : TakerPass → TakerPass → Option Told → Type 0

@@ -1,4 +1,4 @@
-use Rattle.zre_console.proofs.printer.Unrefused.{answered}
+use Rattle.zre_console.proofs.printer.AnsweredCall.{answered}
 use Rattle.zre_console.proofs.printer.page.Page.put.Goals as goal
 
 pub returns-clause-counts : goal.returns-clause-counts

@@ -1,6 +1,6 @@
 use Rattle.std.proofs.Common.{sym, ◌∙◌}
 use Rattle.zre_outside.proofs.GatheredText.{through_all}
-use Rattle.zre_console.proofs.printer.Showing.{all_written, front_written}
+use Rattle.zre_console.proofs.printer.PageShows.{all_written, front_written}
 use Rattle.zre_console.proofs.printer.page.Page.write.Goals as goal
 use Rattle.zre_capture.proofs.Lines.{none_is}
 

@@ -1,6 +1,6 @@
 use Rattle.std.proofs.Common.{rules}
-use Rattle.zre_console.proofs.reader.Reach.{closed}
-use Rattle.zre_console.proofs.reader.Refused.{closed_refuses}
+use Rattle.zre_console.proofs.reader.ReaderProgress.{closed}
+use Rattle.zre_console.proofs.reader.RefusedReads.{closed_refuses}
 use Rattle.zre_console.proofs.reader.job.ReaderJobJob.run.Goals as goal
 
 pub returns : goal.returns

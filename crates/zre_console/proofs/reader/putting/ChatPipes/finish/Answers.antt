@@ -1,4 +1,4 @@
-use Rattle.zre_console.proofs.reader.Pieces.{end-none, end-put, end-quit, end-over, end-memory}
+use Rattle.zre_console.proofs.reader.PutOfPieces.{end-none, end-put, end-quit, end-over, end-memory}
 use Rattle.zre_console.proofs.reader.putting.ChatPipes.finish.Goals as goal
 
 pub returns-in_default-clause-finishes : goal.returns-in_default-clause-finishes

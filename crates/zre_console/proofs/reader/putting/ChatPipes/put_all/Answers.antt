@@ -1,6 +1,6 @@
 use Rattle.std.proofs.Common.{◌++◌, ap, ◌∙◌}
 use Rattle.std.specs.Vec.Iter.{into_iter_items}
-use Rattle.zre_console.proofs.reader.Puts.{put-quit}
+use Rattle.zre_console.proofs.reader.PutCommands.{put-quit}
 use Rattle.zre_console.proofs.reader.putting.ChatPipes.put_all.Goals as goal
 
 pub returns-in-Quit-clause-sent : goal.returns-in-Quit-clause-sent

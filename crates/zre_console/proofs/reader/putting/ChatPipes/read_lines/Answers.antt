@@ -4,8 +4,8 @@ use Rattle.zre_outside.specs.Causes.{Rose}
 use Rattle.zre_outside.proofs.Rising.{rose_since}
 use Rattle.zre_outside.proofs.RefusedReads.{none_then}
 use Rattle.zre_console.specs.reader.Turning.{Finishes}
-use Rattle.zre_console.proofs.reader.Refused.{ends_then}
-use Rattle.zre_console.proofs.reader.Reach.{over-now, too-long, finished, ended-turn, memory-first}
+use Rattle.zre_console.proofs.reader.RefusedReads.{ends_then}
+use Rattle.zre_console.proofs.reader.ReaderProgress.{over-now, too-long, finished, ended-turn, memory-first}
 use Rattle.zre_console.proofs.reader.putting.ChatPipes.read_lines.Goals as goal
 
 pub returns-in_default-clause-read : goal.returns-in_default-clause-read

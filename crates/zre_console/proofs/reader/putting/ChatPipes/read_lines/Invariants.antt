@@ -1,7 +1,7 @@
 use Rattle.std.proofs.Common.{◌≡◌, ◌≤◌, ◌-◌, vec_len}
 use Rattle.zre_outside.specs.Refusals.{RefusesNone}
 use Rattle.zre_actor.specs.Passes.{IsCallerOf}
-use Rattle.zre_console.proofs.reader.Reach.{Reached}
+use Rattle.zre_console.proofs.reader.ReaderProgress.{Reached}
 use Rattle.zre_console.proofs.reader.putting.ChatPipes.read_lines.Given as goal
 
 abbrev pub invariant-loop-taken : goal.invariant-loop-taken

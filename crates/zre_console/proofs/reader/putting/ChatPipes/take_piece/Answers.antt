@@ -1,4 +1,4 @@
-use Rattle.zre_console.proofs.reader.Pieces.{took-quit, took-front, took-some}
+use Rattle.zre_console.proofs.reader.PutOfPieces.{took-quit, took-front, took-some}
 use Rattle.zre_console.proofs.reader.putting.ChatPipes.take_piece.Goals as goal
 
 pub returns-in-Quit-clause-took : goal.returns-in-Quit-clause-took

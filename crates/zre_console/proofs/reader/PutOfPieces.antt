@@ -9,13 +9,13 @@ use Rattle.zre_capture.specs.Journal.{lines_in}
 use Rattle.zre_actor.specs.declared.passes.CallerPass.{CallerPass}
 use Rattle.zre_console.specs.lines.Orders.{is_quit, typed, before_quit, orders_from, ended_lines, Begins}
 use Rattle.zre_console.specs.lines.Typing.{Typing, Typed, Adds, AddsFront}
-use Rattle.zre_console.proofs.lines.Quits.{quit-found, typed-begin, end-quits, last-quits, before-one}
+use Rattle.zre_console.proofs.lines.OrdersUpToQuit.{quit-found, typed-begin, end-quits, last-quits, before-one}
 use Rattle.zre_console.specs.declared.reader.ending.InputEnd.TheVariants as ends
 use Rattle.zre_console.specs.declared.reader.reading.Next.{Next}
 use Rattle.zre_console.specs.declared.reader.reading.Next.TheVariants as nexts
 use Rattle.zre_console.specs.reader.Putting.{Puts, PutsQuit, PutsFront}
 use Rattle.zre_console.specs.reader.Turning.{PutsTyped, PutsAsked, PutsPart, PutsShort, Took, Turned}
-use Rattle.zre_console.proofs.reader.Puts.{puts-none, none-append, none-one}
+use Rattle.zre_console.proofs.reader.PutCommands.{puts-none, none-append, none-one}
 
 -- ---- a piece
 

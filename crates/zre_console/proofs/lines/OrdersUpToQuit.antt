@@ -11,7 +11,7 @@ use Rattle.zre_capture.specs.Journal.{lines_in}
 use Rattle.zre_console.specs.lines.Orders.{orders_from, ended_lines, is_quit, through_quit, before_quit, typed, orders, asked, Begins}
 use Rattle.zre_console.specs.lines.Typing.{unfinished}
 use Rattle.zre_console.specs.reader.Putting.{IsShort}
-use Rattle.zre_console.proofs.lines.Unfinished.{ended-more, ended-last}
+use Rattle.zre_console.proofs.lines.LinesOfPrefix.{ended-more, ended-last}
 
 -- what holds of no commands, of a quit and what comes after it, and of one more that is no quit, holds of all
 along : (P : List Command → Type 0) → P [] → ((cs : List Command) → P (Quit ∷ cs)) → ((c : Command) (cs : List Command) → is_quit c ≡ false → P cs → P (c ∷ cs)) → (cs : List Command) → P cs

@@ -14,14 +14,14 @@ use Rattle.zre_capture.specs.Journal.{capture, lines_in}
 use Rattle.zre_capture.specs.Lines.{IsEntry}
 use Rattle.zre_capture.specs.declared.format.Format.TheVariants.{Second}
 use Rattle.zre_actor.specs.Work.{went}
-use Rattle.zre_actor.proofs.Deeds.{went-none}
+use Rattle.zre_actor.proofs.DeedsOfActs.{went-none}
 use Rattle.zre_commands.specs.declared.pump.status.Status.{Status}
 use Rattle.zre_commands.specs.declared.pump.status.Status.TheVariants.{Done, OutOfMemory}
 use Rattle.zre_console.specs.lines.Orders.{orders_from, ended_lines, Begins}
 use Rattle.zre_console.specs.Keeping.{head_of}
 use Rattle.zre_console.specs.Lived.{Seen, Holds, started, Lived, Wrote, Captured}
 use Rattle.zre_console.specs.Stages.{HasOpened, Prepared}
-use Rattle.zre_console.proofs.lines.Quits.{orders-begin}
+use Rattle.zre_console.proofs.lines.OrdersUpToQuit.{orders-begin}
 
 -- ---- what a world tells, over two steps
 

@@ -4,8 +4,8 @@ use Rattle.std.proofs.lemmas.List.{map-append, length-map}
 use Rattle.zre_actor.specs.declared.passes.CallerPass.{CallerPass}
 use Rattle.zre_actor.specs.Commands.{times, row}
 use Rattle.zre_actor.specs.Passes.{number, numbers_of}
-use Rattle.zre_actor.proofs.Rows.{length_row, row_once}
-use Rattle.zre_actor.proofs.Sums.{times-append, is_first, other_number}
+use Rattle.zre_actor.proofs.ConsecutiveNumbers.{length_row, row_once}
+use Rattle.zre_actor.proofs.SumsOverPasses.{times-append, is_first, other_number}
 use Rattle.zre_console.specs.declared.table.Table.{Table}
 use Rattle.zre_console.specs.Tables.{HasMore}
 

@@ -12,7 +12,7 @@ use Rattle.zre_actor.specs.Work.{QuitsLast}
 use Rattle.zre_console.specs.lines.Orders.{is_quit, through_quit, typed, orders, asked, Begins}
 use Rattle.zre_console.specs.reader.Putting.{IsShort, IsClose}
 use Rattle.zre_console.specs.reader.Reading.{BreaksOff, CutsOff, IsReadOn}
-use Rattle.zre_console.proofs.lines.Quits.{typed-begin, asked-quits, asked-begins, asked-typed, quit-short}
+use Rattle.zre_console.proofs.lines.OrdersUpToQuit.{typed-begin, asked-quits, asked-begins, asked-typed, quit-short}
 
 pub prefix_self : {X : Type 0} (xs : List X) → IsPrefix xs xs
 prefix_self xs = ([], append-nil xs)

@@ -10,8 +10,8 @@ use Rattle.zre_outside.specs.Told.{MovesOn}
 use Rattle.zre_actor.specs.declared.passes.CallerPass.{CallerPass}
 use Rattle.zre_console.specs.lines.Orders.{is_quit, typed, orders, asked, Begins}
 use Rattle.zre_console.specs.lines.Typing.{Typing, Typed}
-use Rattle.zre_commands.proofs.pump.Reach.{MovesOn-nil, MovesOn-trans, counted_more}
-use Rattle.zre_console.proofs.lines.Quits.{typed-begin, asked-quits, asked-begins, asked-typed, quit-short}
+use Rattle.zre_commands.proofs.pump.PumpProgress.{MovesOn-nil, MovesOn-trans, counted_more}
+use Rattle.zre_console.proofs.lines.OrdersUpToQuit.{typed-begin, asked-quits, asked-begins, asked-typed, quit-short}
 use Rattle.zre_console.specs.declared.reader.ending.InputEnd.{InputEnd}
 use Rattle.zre_console.specs.declared.reader.ending.InputEnd.TheVariants as ends
 use Rattle.zre_console.specs.declared.reader.reading.Next.TheVariants as nexts
@@ -19,7 +19,7 @@ use Rattle.zre_outside.specs.declared.entry.Command.TheVariants.{Quit}
 use Rattle.zre_console.specs.reader.Putting.{Puts, Closes, IsShort}
 use Rattle.zre_console.specs.reader.Reading.{BreaksOff, CutsOff, HasRead, HasReadLines, Outcome, LinesOutcome}
 use Rattle.zre_console.specs.reader.Turning.{PutsTyped, Turned, Finishes, Closing}
-use Rattle.zre_console.proofs.reader.Puts.{puts-none, puts-then}
+use Rattle.zre_console.proofs.reader.PutCommands.{puts-none, puts-then}
 
 -- some octets were taken, so many; they were typed, no line is a quit, and their commands were put
 pub record Reached (t : Typing) (a b : CallerPass) (left left' taken taken' : Option (List ℕ)) (count : ℕ) : Type 0 where

@@ -11,7 +11,7 @@ use Rattle.zre_commands.specs.declared.pump.status.Status.TheVariants.{Done, Rea
 use Rattle.zre_console.specs.declared.reader.ending.InputEnd.{InputEnd}
 use Rattle.zre_console.specs.declared.reader.ending.InputEnd.TheVariants as end
 use Rattle.zre_console.specs.Statuses.{least, of_read, of_print, of_work, of_thread}
-use Rattle.zre_console.proofs.First.{isnt_of_parts, rest_of_parts}
+use Rattle.zre_console.proofs.StatusIsFirstFailure.{isnt_of_parts, rest_of_parts}
 use Rattle.zre_console.proofs.LeastStatus.{memory_here, memory_after, done_here, done_after, one_of}
 
 -- the reading fails by a read

@@ -7,7 +7,7 @@ use Rattle.zre_capture.specs.Parts.{Lacks}
 use Rattle.zre_capture.specs.Journal.{lines_in}
 use Rattle.zre_console.specs.lines.Orders.{order_of, orders_from, ended_lines, typed}
 use Rattle.zre_console.specs.lines.Typing.{unfinished, finished, Typing, Keeps, Typed, Adds, AddsFront}
-use Rattle.zre_console.proofs.lines.Unfinished.{ended-last, typed-more, typed-part, typed-line, unfinished-part, unfinished-line, count-part, count-line}
+use Rattle.zre_console.proofs.lines.LinesOfPrefix.{ended-last, typed-more, typed-part, typed-line, unfinished-part, unfinished-line, count-part, count-line}
 
 -- ---- what was typed
 
