@@ -1,2 +1,2 @@
-pub mod Pieces
-pub mod Refusing
+pub mod StreamInPieces
+pub mod InvalidStaysInvalid

@@ -1,4 +1,4 @@
-pub mod Feeding
-pub mod Fronts
-pub mod Growing
-pub mod Steps
+pub mod FollowFedPiece
+pub mod FollowFedParts
+pub mod TextIsMonotone
+pub mod MessageSteps

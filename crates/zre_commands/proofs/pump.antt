@@ -1,2 +1,2 @@
-pub mod Reach
-pub mod Unread
+pub mod PumpProgress
+pub mod EndIsNotReadFault

@@ -4,7 +4,7 @@ use Rattle.zre_peer.specs.Standing.{id_of, view_in}
 use Rattle.zre_peer.specs.declared.peer_run.Run.{Run}
 use Rattle.zre_peer.specs.declared.peer_run.RunFault.TheVariants.{OutOfMemory}
 use Rattle.zre_commands.specs.follow.Runs.{end_of}
-use Rattle.zre_commands.proofs.follow.Steps.{ends_so}
+use Rattle.zre_commands.proofs.follow.MessageSteps.{ends_so}
 use Rattle.zre_commands.proofs.follow.taking.end.Goals as goal
 
 pub returns-in_ok-push_end-in_default : goal.returns-in_ok-push_end-in_default

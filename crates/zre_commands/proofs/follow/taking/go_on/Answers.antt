@@ -1,4 +1,4 @@
-use Rattle.zre_commands.proofs.follow.Steps.{goes_on}
+use Rattle.zre_commands.proofs.follow.MessageSteps.{goes_on}
 use Rattle.zre_commands.proofs.follow.taking.go_on.Goals as goal
 
 pub returns-in-Ok : goal.returns-in-Ok

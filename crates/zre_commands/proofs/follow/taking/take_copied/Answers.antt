@@ -1,5 +1,5 @@
 use Rattle.std.proofs.Common.{List, ℕ, refl, subst}
-use Rattle.zre_commands.proofs.follow.Steps.{takes_lost}
+use Rattle.zre_commands.proofs.follow.MessageSteps.{takes_lost}
 use Rattle.zre_commands.specs.follow.Messages.{meant_by}
 use Rattle.zre_commands.specs.follow.Taken.{Takes}
 use Rattle.zre_commands.proofs.follow.taking.take_copied.Goals as goal

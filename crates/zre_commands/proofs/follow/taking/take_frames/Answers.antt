@@ -1,6 +1,6 @@
 use Rattle.std.proofs.Common.{refl}
 use Rattle.zre_msg.specs.Lent.{message_of}
-use Rattle.zre_commands.proofs.follow.Steps.{takes_lost, takes_meant, takes_none, bad_means_none}
+use Rattle.zre_commands.proofs.follow.MessageSteps.{takes_lost, takes_meant, takes_none, bad_means_none}
 use Rattle.zre_commands.proofs.follow.taking.take_frames.Goals as goal
 
 pub returns-in-Ok-Some : goal.returns-in-Ok-Some

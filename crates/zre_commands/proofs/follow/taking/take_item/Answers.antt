@@ -1,7 +1,7 @@
 use Rattle.std.proofs.Common.{[], sym, subst}
 use Rattle.std.specs.List.{cons_option}
 use Rattle.zre_zmtp.specs.declared.item.What.{What}
-use Rattle.zre_commands.proofs.follow.Steps.{not_meant, takes_none}
+use Rattle.zre_commands.proofs.follow.MessageSteps.{not_meant, takes_none}
 use Rattle.zre_commands.specs.follow.Messages.{meant}
 use Rattle.zre_commands.specs.follow.Taken.{Takes}
 use Rattle.zre_commands.proofs.follow.taking.take_item.Goals as goal

@@ -1,5 +1,5 @@
 use Rattle.std.proofs.Common.{not, refl, ap, ◌∙◌}
-use Rattle.zre_commands.proofs.follow.Steps.{took_none, took_next, took_last, take_next}
+use Rattle.zre_commands.proofs.follow.MessageSteps.{took_none, took_next, took_last, take_next}
 use Rattle.zre_commands.proofs.follow.taking.take_items.Goals as goal
 
 pub loop-item-init : goal.loop-item-init

@@ -1,5 +1,5 @@
 use Rattle.std.proofs.Common.{refl}
-use Rattle.zre_commands.proofs.follow.Steps.{takes_lost, takes_meant, takes_none, bad_means_none}
+use Rattle.zre_commands.proofs.follow.MessageSteps.{takes_lost, takes_meant, takes_none, bad_means_none}
 use Rattle.zre_commands.proofs.follow.taking.take_whole.Goals as goal
 
 pub returns-in-Ok : goal.returns-in-Ok

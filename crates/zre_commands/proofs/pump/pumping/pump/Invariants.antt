@@ -1,6 +1,6 @@
 use Rattle.std.proofs.Common.{◌≡◌, ◌≤◌, ◌-◌, vec_len}
 use Rattle.zre_outside.specs.Refusals.{RefusesNone}
-use Rattle.zre_commands.proofs.pump.Reach.{Reached}
+use Rattle.zre_commands.proofs.pump.PumpProgress.{Reached}
 use Rattle.zre_commands.proofs.pump.pumping.pump.Given as goal
 
 abbrev pub invariant-loop-taken : goal.invariant-loop-taken

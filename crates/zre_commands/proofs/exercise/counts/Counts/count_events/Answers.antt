@@ -1,4 +1,4 @@
-use Rattle.zre_commands.proofs.exercise.Counting.{no_event, next_event, all_events}
+use Rattle.zre_commands.proofs.exercise.EventCounts.{no_event, next_event, all_events}
 use Rattle.zre_commands.proofs.exercise.counts.Counts.count_events.Goals as goal
 
 pub loop-event-init : goal.loop-event-init

@@ -1,5 +1,5 @@
 use Rattle.zre_capture.specs.Left.{left}
-use Rattle.zre_commands.proofs.exercise.Running.{takes_none, takes_one, takes_on, takes_all, less_left, gave, gave_none}
+use Rattle.zre_commands.proofs.exercise.NodeOnJournal.{takes_none, takes_one, takes_on, takes_all, less_left, gave, gave_none}
 use Rattle.zre_commands.proofs.exercise.run.CountingNode.take_all.Goals as goal
 
 pub entries-init : goal.entries-init

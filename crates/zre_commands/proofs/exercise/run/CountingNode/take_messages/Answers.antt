@@ -1,7 +1,7 @@
 use Rattle.std.proofs.Common.{◌≡◌, ◌∷◌, refl}
 use Rattle.zre_capture.specs.Left.{left}
 use Rattle.zre_node.specs.Kinds.{piece_entry}
-use Rattle.zre_commands.proofs.exercise.Running.{takes_none, takes_one, two_less}
+use Rattle.zre_commands.proofs.exercise.NodeOnJournal.{takes_none, takes_one, two_less}
 use Rattle.zre_commands.proofs.exercise.run.CountingNode.take_messages.Goals as goal
 
 pub messages-init : goal.messages-init

@@ -4,7 +4,7 @@ use Rattle.zre_node.specs.declared.node.Node.{Node}
 use Rattle.zre_node.specs.Journal.{IsStep}
 use Rattle.zre_node.specs.Kinds.{piece_entry}
 use Rattle.zre_values.proofs.Answered.{on_ok}
-use Rattle.zre_commands.proofs.exercise.Running.{steps_on}
+use Rattle.zre_commands.proofs.exercise.NodeOnJournal.{steps_on}
 use Rattle.zre_commands.proofs.exercise.run.CountingNode.take_piece.Goals as goal
 
 pub returns : goal.returns

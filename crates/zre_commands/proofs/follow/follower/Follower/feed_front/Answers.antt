@@ -4,8 +4,8 @@ use Rattle.zre_zmtp.specs.Stream.{Traffic}
 use Rattle.zre_zmtp.specs.declared.want.Want.TheVariants.{Any}
 use Rattle.zre_commands.specs.follow.Follower.{peer_of}
 use Rattle.zre_commands.specs.follow.Messages.{messages}
-use Rattle.zre_commands.proofs.follow.Feeding.{piece_taken, feeds_on}
-use Rattle.zre_commands.proofs.follow.Fronts.{front_taken}
+use Rattle.zre_commands.proofs.follow.FollowFedPiece.{piece_taken, feeds_on}
+use Rattle.zre_commands.proofs.follow.FollowFedParts.{front_taken}
 use Rattle.zre_commands.proofs.follow.follower.Follower.feed_front.Goals as goal
 
 pub returns-in-Some-clause-fed : goal.returns-in-Some-clause-fed

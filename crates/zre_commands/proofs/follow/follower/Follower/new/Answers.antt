@@ -1,6 +1,6 @@
 use Rattle.std.proofs.Common.{sym, subst, ◌∙◌}
 use Rattle.zre_peer.specs.Standing.{Stands}
-use Rattle.zre_commands.proofs.follow.Growing.{nothing_over, no_messages, no_fault, nothing_stopped}
+use Rattle.zre_commands.proofs.follow.TextIsMonotone.{nothing_over, no_messages, no_fault, nothing_stopped}
 use Rattle.zre_commands.proofs.follow.follower.Follower.new.Goals as goal
 
 pub returns-clause-fed : goal.returns-clause-fed

@@ -1,5 +1,5 @@
 use Rattle.std.proofs.Common.{List, ℕ, ◌++◌, sym, ap, ◌∙◌, append-nil}
-use Rattle.zre_commands.proofs.follow.Growing.{text_nothing}
+use Rattle.zre_commands.proofs.follow.TextIsMonotone.{text_nothing}
 use Rattle.zre_commands.proofs.follow.follower.FollowerMachine.begin.Goals as goal
 
 pub returns : goal.returns

@@ -2,8 +2,8 @@ use Rattle.std.proofs.Common.{◌≤◌, ◌++◌, true, false, not, ◌&&◌, l
 use Rattle.std.proofs.lemmas.Bool.{eqb-true}
 use Rattle.std.specs.Prelude.{is_some}
 use Rattle.zre_commands.specs.follow.Follower.{GoesOn}
-use Rattle.zre_commands.proofs.follow.Feeding.{over_fed, over_grows, over_goes, not_spent}
-use Rattle.zre_commands.proofs.follow.Fronts.{begins, one_more, rest_left, all_taken, stop_fed}
+use Rattle.zre_commands.proofs.follow.FollowFedPiece.{over_fed, over_grows, over_goes, not_spent}
+use Rattle.zre_commands.proofs.follow.FollowFedParts.{begins, one_more, rest_left, all_taken, stop_fed}
 use Rattle.zre_commands.proofs.follow.follower.FollowerMachine.feed.Goals as goal
 
 pub returns-then-spent-clause-fed : goal.returns-then-spent-clause-fed

@@ -1,5 +1,5 @@
 use Rattle.std.proofs.Common.{length}
-use Rattle.zre_commands.proofs.follow.Fronts.{IsAmid}
+use Rattle.zre_commands.proofs.follow.FollowFedParts.{IsAmid}
 use Rattle.zre_commands.proofs.follow.follower.FollowerMachine.feed.Given as goal
 
 abbrev pub invariant-loop-rest : goal.invariant-loop-rest

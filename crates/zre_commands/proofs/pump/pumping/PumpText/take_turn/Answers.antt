@@ -1,6 +1,6 @@
 use Rattle.std.proofs.Common.{arith}
 use Rattle.std.proofs.lemmas.List.{length-take}
-use Rattle.zre_commands.proofs.pump.Reach.{turned}
+use Rattle.zre_commands.proofs.pump.PumpProgress.{turned}
 use Rattle.zre_commands.proofs.pump.pumping.PumpText.take_turn.Goals as goal
 
 pub returns-clause-turned : goal.returns-clause-turned

@@ -1,5 +1,5 @@
 use Rattle.std.proofs.Common.{sym}
-use Rattle.zre_commands.proofs.show.Listing.{no_fault, nothing_stopped}
+use Rattle.zre_commands.proofs.show.ListerFedPiece.{no_fault, nothing_stopped}
 use Rattle.zre_commands.proofs.show.lister.Lister.new.Goals as goal
 
 pub returns-clause-fed : goal.returns-clause-fed

@@ -1,5 +1,5 @@
 use Rattle.std.proofs.Common.{List, ℕ, ◌++◌, sym, ap, ◌∙◌, append-nil}
-use Rattle.zre_commands.proofs.show.Listing.{text_nothing}
+use Rattle.zre_commands.proofs.show.ListerFedPiece.{text_nothing}
 use Rattle.zre_commands.proofs.show.lister.ListerMachine.begin.Goals as goal
 
 pub returns : goal.returns

@@ -2,8 +2,8 @@ use Rattle.std.proofs.Common.{◌++◌, sym, ap, ◌∙◌}
 use Rattle.std.specs.Prelude.{is_some}
 use Rattle.zre_zmtp.specs.Stream.{Whole}
 use Rattle.zre_commands.specs.show.Lines.{lines}
-use Rattle.zre_commands.proofs.Pieces.{going_reads, not_spent, items_are}
-use Rattle.zre_commands.proofs.show.Listing.{text_grows, text_on}
+use Rattle.zre_commands.proofs.StreamInPieces.{going_reads, not_spent, items_are}
+use Rattle.zre_commands.proofs.show.ListerFedPiece.{text_grows, text_on}
 use Rattle.zre_commands.proofs.show.lister.ListerMachine.feed.Goals as goal
 
 pub returns-then-spent-clause-fed : goal.returns-then-spent-clause-fed

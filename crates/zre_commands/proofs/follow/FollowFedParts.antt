@@ -25,7 +25,7 @@ use Rattle.zre_commands.specs.follow.Taken.{Took}
 use Rattle.zre_commands.specs.pump.Meaning.{Meaning, Grows}
 use Rattle.zre_commands.specs.Stream.{HasRead}
 use Rattle.zre_peer.specs.Lines.{lines}
-use Rattle.zre_commands.proofs.follow.Feeding.{Fed-more, feeds_more, feeds_on, going_reads, over_fed, over_grows}
+use Rattle.zre_commands.proofs.follow.FollowFedPiece.{Fed-more, feeds_more, feeds_on, going_reads, over_fed, over_grows}
 
 -- ---- a part
 

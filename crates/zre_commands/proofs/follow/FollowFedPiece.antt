@@ -19,8 +19,8 @@ use Rattle.zre_commands.specs.follow.Messages.{messages, messages_in}
 use Rattle.zre_commands.specs.follow.Runs.{events_after}
 use Rattle.zre_commands.specs.follow.Taken.{Took}
 use Rattle.zre_commands.specs.Stream.{HasRead, ReadPiece}
-use Rattle.zre_commands.proofs.Pieces.{going_reads as stands_after, not_spent as is_unspent, items_are}
-use Rattle.zre_commands.proofs.follow.Growing.{newly, messages_more, over_stays, over_later, text_over, text_later}
+use Rattle.zre_commands.proofs.StreamInPieces.{going_reads as stands_after, not_spent as is_unspent, items_are}
+use Rattle.zre_commands.proofs.follow.TextIsMonotone.{newly, messages_more, over_stays, over_later, text_over, text_later}
 
 -- ---- after the end of the run
 

@@ -24,7 +24,7 @@ use Rattle.zre_zmtp.specs.declared.item.What.TheVariants as says
 use Rattle.zre_commands.specs.follow.Messages.{meant, meant_by, messages_in}
 use Rattle.zre_commands.specs.follow.Runs.{end_of, events_after, is_over}
 use Rattle.zre_commands.specs.follow.Taken.{Takes, Took}
-use Rattle.zre_commands.proofs.follow.Growing.{events_more, over_more, messages_in-append}
+use Rattle.zre_commands.proofs.follow.TextIsMonotone.{events_more, over_more, messages_in-append}
 
 -- no message was taken
 pub took_none : (id : PeerId) (ms : List Message) (run : Run) (out : List ℕ) → Stands run ms → is_spent run ≡ false → Took id ms [] run out out

@@ -11,8 +11,8 @@ use Rattle.zre_commands.specs.follow.Follow as follows
 use Rattle.zre_commands.specs.follow.Messages.{messages, messages_in}
 use Rattle.zre_commands.specs.follow.Runs.{is_over}
 use Rattle.zre_commands.specs.show.Show as shows
-use Rattle.zre_commands.proofs.follow.Growing as growing
-use Rattle.zre_commands.proofs.show.Listing as listing
+use Rattle.zre_commands.proofs.follow.TextIsMonotone as growing
+use Rattle.zre_commands.proofs.show.ListerFedPiece as listing
 
 found : (kind : Kind) (o : List ℕ) (f : Option ZmtpFault) → fault Any kind o ≡ f → is_some f ≡ true → IsOver Any kind o
 found kind o None e there = absurd cc
