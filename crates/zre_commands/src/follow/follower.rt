@@ -70,7 +70,7 @@ impl Follower {
         requires reading { self.old.reader.spent ≡ false }
         // What the front of the octets adds.
         ensures fed { FeedsFront result self.old self.new octets.now out.old out.new }
-        ensures same { peer_of self.new ≡ peer_of self.old }
+        ensures unchanged { peer_of self.new ≡ peer_of self.old }
         ensures within { IfOk result (λ len. (0 < len) × (len ≤ length octets.now)) }
     {
         if let Some(front) = self.reader.pass(octets) {

@@ -58,7 +58,7 @@ impl Typist {
 
     // Keeps more octets of a line, or none of it once it is too long.
     fn gather(&mut self, text: &[u8]) -> Result<(), OutOfMemory>
-        ensures kept { (line : List ℕ) → Keeps self.old.long self.old.left line →
+        ensures held { (line : List ℕ) → Keeps self.old.long self.old.left line →
             OnOk result (Keeps self.new.long self.new.left (line ++ text.now)) }
         ensures line { self.new.line ≡ self.old.line }
     {
@@ -116,7 +116,7 @@ impl Typist {
         ensures ok { (line : List ℕ) → Keeps self.old.long self.old.left line →
             OnOk result (out.new.items ≡ out.old.items ++ order_of self.old.line (line ++ text.now) ∷ []) }
         ensures next { OnOk result (self.new ≡ record { line = self.old.line + 1; left = []; long = false }) }
-        ensures kept { OnErr result (out.new.items ≡ out.old.items) }
+        ensures unchanged { OnErr result (out.new.items ≡ out.old.items) }
     {
         let command = self.end_line(text)?;
         out.push(command)?;

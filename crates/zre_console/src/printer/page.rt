@@ -41,7 +41,7 @@ impl Page {
         ensures front { OnErr result (AppendsFront (O.written out.old) (O.written out.new)
             (self.old.text ++ line event.now)) }
         // A fault is noted elsewhere; the count rises where the sink failed.
-        ensures same { self.new.fault ≡ self.old.fault }
+        ensures unchanged { self.new.fault ≡ self.old.fault }
         ensures later { O.faults out.old ≤ O.faults out.new }
         ensures failed { IsErrOf result NextFault.Failed → Rose (O.faults out.old) (O.faults out.new) }
         ensures counts { OnOk result (O.refused out.new ≡ O.refused out.old) }

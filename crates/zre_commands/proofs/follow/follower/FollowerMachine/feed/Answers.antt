@@ -31,7 +31,7 @@ pub loop-rest-preserved : goal.loop-rest-preserved
 loop-rest-preserved c =
     let on : GoesOn true c.loop-rest.self = subst (λ b. GoesOn b c.loop-rest.self) c.if-not-goes_on.false c.goes_on.ensures in
     one_more c.args.self.now c.loop-rest.self c.feed_front.new.self c.args.piece.now c.loop-rest.rest.now c.split_at.result.1.now c.args.out.now c.loop-rest.out c.feed_front.new.out c.in_ok-len.len c.split_at.ensures.back on.0 on.2
-    c.loop-rest.invariant c.in_ok-len.ensures.same c.in_ok-len.ensures.fed
+    c.loop-rest.invariant c.in_ok-len.ensures.unchanged c.in_ok-len.ensures.fed
 
 pub returns-then-not-goes_on-clause-fed : goal.returns-then-not-goes_on-clause-fed
 returns-then-not-goes_on-clause-fed c = λ o h going.

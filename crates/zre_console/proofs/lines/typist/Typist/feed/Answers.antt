@@ -8,7 +8,7 @@ lines-init c = amid-start c.args.self.now c.args.piece.now c.args.out.now.items
 pub returns-in_err-take_line-clause-front : goal.returns-in_err-take_line-clause-front
 returns-in_err-take_line-clause-front c = λ o is.
     let p = err_from_is_err_and c.from_residual.result c.from_residual.ensures.1 in
-    let amid = amid-out c.args.self.now c.args.piece.now c.args.out.now.items c.lines.out.items c.take_line.new.out.items c.lines.self c.lines.rest.now c.lines.invariant c.in_err-take_line.ensures.kept in
+    let amid = amid-out c.args.self.now c.args.piece.now c.args.out.now.items c.lines.out.items c.take_line.new.out.items c.lines.self c.lines.rest.now c.lines.invariant c.in_err-take_line.ensures.unchanged in
     rw p.1 (front-taken o c.args.piece.now c.args.self.now c.lines.self c.args.out.now.items c.take_line.new.out.items c.lines.rest.now is amid)
 
 pub lines-preserved : goal.lines-preserved
@@ -25,4 +25,4 @@ returns-in_err-gather-clause-front c = λ o is.
 pub returns-clause-ok : goal.returns-clause-ok
 returns-clause-ok c = λ o is.
     all-taken o c.args.piece.now c.args.self.now c.lines.self c.args.out.now.items c.lines.out.items c.lines.rest.now is c.lines.invariant
-    c.gather.new.self c.in_default.ensures.none c.in_ok-gather.ensures.line c.in_ok-gather.ensures.kept
+    c.gather.new.self c.in_default.ensures.none c.in_ok-gather.ensures.line c.in_ok-gather.ensures.held
