@@ -1,5 +1,5 @@
-mod Audited
-pub mod Endings
-pub mod Refusing
-pub mod Replayed
-mod Simulated
+mod AuditIsWritten
+pub mod CommandEnding
+pub mod InvalidStaysInvalid
+pub mod CapturesAreReplayed
+mod ScheduleIsWritten

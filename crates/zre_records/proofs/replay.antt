@@ -1,6 +1,6 @@
-pub mod Feeding
-pub mod HeadFeeding
-pub mod Kept
-pub mod Made
-pub mod Pieces
-pub mod Telling
+pub mod ReplayerFedPiece
+pub mod HeadReplayerFedPiece
+pub mod EvasiveLines
+pub mod MadeFromSettings
+pub mod CaptureInPieces
+pub mod EntriesReplayed

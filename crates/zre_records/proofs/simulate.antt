@@ -1,3 +1,3 @@
-pub mod Keeping
-pub mod Telling
-pub mod Twice
+pub mod LongTextIsRefused
+pub mod GatheredLines
+pub mod LinesOfMoves

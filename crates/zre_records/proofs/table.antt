@@ -1,3 +1,3 @@
-pub mod Bringing
-pub mod Keeping
-pub mod Tabulating
+pub mod WritesOfEntry
+pub mod FramesTaken
+pub mod TabulatorFedPiece

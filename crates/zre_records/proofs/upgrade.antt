@@ -1,2 +1,2 @@
-pub mod Feeding
-pub mod Wrote
+pub mod UpgraderFedPiece
+pub mod EntriesWritten

@@ -3,7 +3,7 @@ use Rattle.zre_capture.specs.Journal.{journal, settings}
 use Rattle.zre_capture.specs.declared.format.Format.TheVariants.{Second}
 use Rattle.zre_outside.specs.declared.entry.Entry.{Entry}
 use Rattle.zre_records.specs.audit.Watched.{IsWatched}
-use Rattle.zre_records.proofs.replay.Pieces.{is_still}
+use Rattle.zre_records.proofs.replay.CaptureInPieces.{is_still}
 use Rattle.zre_records.proofs.audit.watched.take.Goals as goal
 
 pub returns : goal.returns

@@ -1,4 +1,4 @@
-use Rattle.zre_records.proofs.audit.Telling.{watches_none, watches_more}
+use Rattle.zre_records.proofs.audit.WatchAfterSettings.{watches_none, watches_more}
 use Rattle.zre_records.proofs.audit.watched.watch_entries.Goals as goal
 
 pub loop-entry-init : goal.loop-entry-init

@@ -1,7 +1,7 @@
 use Rattle.std.proofs.Common.{sym, ap, ◌∙◌}
 use Rattle.std.specs.Prelude.{option_map}
 use Rattle.zre_records.specs.replay.Lives.{due}
-use Rattle.zre_records.proofs.replay.Made.{made_now, made_still}
+use Rattle.zre_records.proofs.replay.MadeFromSettings.{made_now, made_still}
 use Rattle.zre_records.proofs.replay.headed.make.Goals as goal
 
 pub returns-in_ok-new-in-Some : goal.returns-in_ok-new-in-Some

@@ -3,7 +3,7 @@ use Rattle.zre_outside.specs.declared.entry.Entry.{Entry}
 use Rattle.zre_peer.specs.Lines.{lines}
 use Rattle.zre_peer.specs.declared.event.Event.{Event}
 use Rattle.zre_records.specs.replay.Taken.{Took}
-use Rattle.zre_records.proofs.replay.Telling.{took_more, next_of, later_of}
+use Rattle.zre_records.proofs.replay.EntriesReplayed.{took_more, next_of, later_of}
 use Rattle.zre_records.proofs.replay.taking.take_entries.Goals as goal
 
 pub loop-entry-preserved : goal.loop-entry-preserved

@@ -1,6 +1,6 @@
 use Rattle.std.proofs.Common.{arith, rules}
 use Rattle.zre_outside.proofs.Errors.{on_err}
-use Rattle.zre_records.proofs.simulate.Telling.{one_came, front_came, front_with}
+use Rattle.zre_records.proofs.simulate.GatheredLines.{one_came, front_came, front_with}
 use Rattle.zre_records.proofs.simulate.answer.put_told.Goals as goal
 
 pub loop-one-preserved : goal.loop-one-preserved

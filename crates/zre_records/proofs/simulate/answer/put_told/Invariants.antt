@@ -1,5 +1,5 @@
 use Rattle.std.proofs.Common.{◌≤◌}
-use Rattle.zre_records.proofs.simulate.Telling.{Came}
+use Rattle.zre_records.proofs.simulate.GatheredLines.{Came}
 use Rattle.zre_records.proofs.simulate.answer.put_told.Given as goal
 
 abbrev pub invariant-loop-one : goal.invariant-loop-one

@@ -3,7 +3,7 @@ use Rattle.std.proofs.lemmas.Bool.{OnTrue_at}
 use Rattle.zre_outside.proofs.Errors.{on_err}
 use Rattle.zre_outside.proofs.GatheredText.{through_none}
 use Rattle.zre_net.proofs.Runs.{none_came, with_next, one_came, all_came}
-use Rattle.zre_records.proofs.simulate.Twice.{came_on, front_of, front_on}
+use Rattle.zre_records.proofs.simulate.LinesOfMoves.{came_on, front_of, front_on}
 use Rattle.zre_records.proofs.simulate.answer.write_moves.Goals as goal
 
 pub lines-init : goal.lines-init

@@ -1,4 +1,4 @@
-use Rattle.zre_records.proofs.table.Bringing.{gathered_none, gathered_more}
+use Rattle.zre_records.proofs.table.WritesOfEntry.{gathered_none, gathered_more}
 use Rattle.zre_records.proofs.table.gathering.gather_entries.Goals as goal
 
 pub loop-entry-init : goal.loop-entry-init

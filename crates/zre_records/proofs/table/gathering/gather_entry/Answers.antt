@@ -5,7 +5,7 @@ use Rattle.zre_peer.specs.declared.event.Event.{Event}
 use Rattle.zre_values.proofs.Answered.{on_ok}
 use Rattle.zre_records.specs.table.Kept.{Keeps}
 use Rattle.zre_records.specs.table.Writes.{frames, frames_told, frames_asked, is_refusal}
-use Rattle.zre_records.proofs.table.Bringing.{gathered_on}
+use Rattle.zre_records.proofs.table.WritesOfEntry.{gathered_on}
 use Rattle.zre_records.proofs.table.gathering.gather_entry.Goals as goal
 
 pub returns : goal.returns

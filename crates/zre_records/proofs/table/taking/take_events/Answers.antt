@@ -1,7 +1,7 @@
 use Rattle.std.proofs.Common.{ℕ, List, ◌++◌, take, flat_map, subst}
 use Rattle.zre_records.specs.table.Kept.{Keeps}
 use Rattle.zre_records.specs.table.Writes.{frames_told}
-use Rattle.zre_records.proofs.table.Keeping.{no_event, next_event, all_events}
+use Rattle.zre_records.proofs.table.FramesTaken.{no_event, next_event, all_events}
 use Rattle.zre_records.proofs.table.taking.take_events.Goals as goal
 
 pub loop-event-init : goal.loop-event-init

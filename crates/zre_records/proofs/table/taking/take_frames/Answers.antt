@@ -1,6 +1,6 @@
 use Rattle.std.proofs.Common.{ap, ◌∙◌}
 use Rattle.zre_shared.specs.Replicas.{with_frame}
-use Rattle.zre_records.proofs.table.Keeping.{no_frame, next_frame, all_frames}
+use Rattle.zre_records.proofs.table.FramesTaken.{no_frame, next_frame, all_frames}
 use Rattle.zre_records.proofs.table.taking.take_frames.Goals as goal
 
 pub loop-frame-init : goal.loop-frame-init

@@ -2,7 +2,7 @@ use Rattle.std.proofs.Common.{◌≡◌, ◌+◌, List, [], ◌∷◌, ◌++◌,
 use Rattle.std.proofs.Math.Seq.{take-suc}
 use Rattle.zre_outside.specs.declared.entry.Entry.{Entry}
 use Rattle.zre_records.specs.upgrade.Written.{Wrote}
-use Rattle.zre_records.proofs.upgrade.Wrote.{wrote_more}
+use Rattle.zre_records.proofs.upgrade.EntriesWritten.{wrote_more}
 use Rattle.zre_records.proofs.upgrade.writing.push_entries.Goals as goal
 
 pub loop-entry-preserved : goal.loop-entry-preserved

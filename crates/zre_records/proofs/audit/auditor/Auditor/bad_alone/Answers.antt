@@ -1,4 +1,4 @@
-use Rattle.zre_records.proofs.audit.Ending.{if_ok, place_alone}
+use Rattle.zre_records.proofs.audit.AuditorOfCaptures.{if_ok, place_alone}
 use Rattle.zre_records.proofs.audit.auditor.Auditor.bad_alone.Goals as goal
 
 pub returns-in-None : goal.returns-in-None

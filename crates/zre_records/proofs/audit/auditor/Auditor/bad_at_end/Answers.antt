@@ -1,5 +1,5 @@
 use Rattle.zre_capture.specs.declared.format.Format.TheVariants.{Second}
-use Rattle.zre_records.proofs.audit.Ending.{if_ok, place_before, place_later}
+use Rattle.zre_records.proofs.audit.AuditorOfCaptures.{if_ok, place_before, place_later}
 use Rattle.zre_records.proofs.audit.auditor.Auditor.bad_at_end.Goals as goal
 
 pub returns-in-Some-2 : goal.returns-in-Some-2

@@ -1,7 +1,7 @@
 use Rattle.std.proofs.Common.{sym, ◌∙◌}
 use Rattle.zre_capture.specs.declared.format.Format.TheVariants.{Second}
 use Rattle.zre_records.specs.audit.Seam.{before_seam}
-use Rattle.zre_records.proofs.audit.Ending.{if_ok, first_marked, first_alone}
+use Rattle.zre_records.proofs.audit.AuditorOfCaptures.{if_ok, first_marked, first_alone}
 use Rattle.zre_records.proofs.audit.auditor.Auditor.first_bad.Goals as goal
 
 pub returns-then-is_whole : goal.returns-then-is_whole

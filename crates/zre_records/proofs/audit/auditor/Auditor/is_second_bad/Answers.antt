@@ -1,4 +1,4 @@
-use Rattle.zre_records.proofs.audit.Ending.{second_is, second_none}
+use Rattle.zre_records.proofs.audit.AuditorOfCaptures.{second_is, second_none}
 use Rattle.zre_records.proofs.audit.auditor.Auditor.is_second_bad.Goals as goal
 
 pub returns-in-Some : goal.returns-in-Some

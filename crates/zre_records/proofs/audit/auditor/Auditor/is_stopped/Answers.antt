@@ -3,7 +3,7 @@ use Rattle.std.specs.Prelude.{is_some}
 use Rattle.zre_capture.specs.Journal.{settings}
 use Rattle.zre_capture.specs.declared.format.Format.TheVariants.{Second}
 use Rattle.zre_records.specs.audit.Audit.{earlier, later, later_bad}
-use Rattle.zre_records.proofs.audit.Ending.{first_is}
+use Rattle.zre_records.proofs.audit.AuditorOfCaptures.{first_is}
 use Rattle.zre_records.proofs.audit.auditor.Auditor.is_stopped.Goals as goal
 
 pub returns-then-is_bad : goal.returns-then-is_bad

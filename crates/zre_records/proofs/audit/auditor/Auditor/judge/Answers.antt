@@ -1,4 +1,4 @@
-use Rattle.zre_records.proofs.audit.Ending.{judged_none, judged_both}
+use Rattle.zre_records.proofs.audit.AuditorOfCaptures.{judged_none, judged_both}
 use Rattle.zre_records.proofs.audit.auditor.Auditor.judge.Goals as goal
 
 pub returns-in-Some : goal.returns-in-Some

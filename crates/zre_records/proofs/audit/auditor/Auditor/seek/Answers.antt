@@ -7,7 +7,7 @@ use Rattle.zre_values.specs.declared.settings.Settings.{Settings}
 use Rattle.zre_records.specs.audit.Cut.{mark}
 use Rattle.zre_records.specs.audit.Later.{IsLater}
 use Rattle.zre_records.specs.audit.Seam.{IsUnparted, IsParted}
-use Rattle.zre_records.proofs.audit.Feeding.{is_first, piece_unparted, piece_parted, mark_going, rest_is}
+use Rattle.zre_records.proofs.audit.AuditorFedPiece.{is_first, piece_unparted, piece_parted, mark_going, rest_is}
 use Rattle.zre_records.proofs.audit.auditor.Auditor.seek.Goals as goal
 
 pub returns-in-None : goal.returns-in-None

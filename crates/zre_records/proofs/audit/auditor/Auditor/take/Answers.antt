@@ -1,5 +1,5 @@
 use Rattle.std.proofs.Common.{refl}
-use Rattle.zre_records.proofs.audit.Feeding.{is_first, first_going, piece_later}
+use Rattle.zre_records.proofs.audit.AuditorFedPiece.{is_first, first_going, piece_later}
 use Rattle.zre_records.proofs.audit.auditor.Auditor.take.Goals as goal
 
 pub returns-in-Some : goal.returns-in-Some

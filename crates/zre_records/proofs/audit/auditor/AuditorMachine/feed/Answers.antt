@@ -1,5 +1,5 @@
 use Rattle.std.proofs.Common.{◌++◌}
-use Rattle.zre_records.proofs.audit.Auditing.{nothing_written}
+use Rattle.zre_records.proofs.audit.AuditorAtEnd.{nothing_written}
 use Rattle.zre_records.proofs.audit.auditor.AuditorMachine.feed.Goals as goal
 
 pub returns-clause-fed : goal.returns-clause-fed

@@ -3,7 +3,7 @@ use Rattle.std.specs.Prelude.{is_some}
 use Rattle.zre_outside.proofs.GatheredText.{gathers}
 use Rattle.zre_commands.specs.pump.Lines.{refusal}
 use Rattle.zre_records.specs.audit.Audit.{place, verdict}
-use Rattle.zre_records.proofs.Endings.{good_end, bad_end}
+use Rattle.zre_records.proofs.CommandEnding.{good_end, bad_end}
 use Rattle.zre_records.proofs.audit.auditor.AuditorMachine.finish.Goals as goal
 
 pub returns-then-branch-clause-bad : goal.returns-then-branch-clause-bad

@@ -1,6 +1,6 @@
 use Rattle.std.proofs.Common.{[], ap}
 use Rattle.std.specs.Prelude.{is_some}
-use Rattle.zre_records.proofs.audit.Placing.{nothing_not_bad}
+use Rattle.zre_records.proofs.audit.CapturesOfText.{nothing_not_bad}
 use Rattle.zre_records.proofs.audit.later.Later.new.Goals as goal
 
 pub returns : goal.returns

@@ -1,4 +1,4 @@
-use Rattle.zre_records.proofs.audit.Seeking.{IsSought}
+use Rattle.zre_records.proofs.audit.BeforeSecondCapture.{IsSought}
 use Rattle.zre_records.proofs.audit.seam.Seam.find.Given as goal
 
 abbrev pub invariant-loop-place : goal.invariant-loop-place

@@ -1,7 +1,7 @@
 use Rattle.std.proofs.Common.{ap, ◌∙◌, sym}
 use Rattle.std.specs.Prelude.{Option, option_map, ℕ}
 use Rattle.zre_records.specs.audit.Seam.{Seeking, awaited_after, is_whole}
-use Rattle.zre_records.proofs.audit.Seeking.{whole_is}
+use Rattle.zre_records.proofs.audit.BeforeSecondCapture.{whole_is}
 use Rattle.zre_records.proofs.audit.seam.Seam.is_whole.Goals as goal
 
 pub returns-in-Some : goal.returns-in-Some

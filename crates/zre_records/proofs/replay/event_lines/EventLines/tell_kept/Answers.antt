@@ -1,6 +1,6 @@
 use Rattle.std.proofs.Common.{◌≡◌, ◌++◌, ◌<◌, ℕ, List, length, get_or, ap, ◌∙◌, sym, subst, rules, ltb-true}
 use Rattle.zre_records.specs.declared.replay.event_lines.EvasiveLine.{EvasiveLine}
-use Rattle.zre_records.proofs.replay.Kept.{kept_at, its_line}
+use Rattle.zre_records.proofs.replay.EvasiveLines.{kept_at, its_line}
 use Rattle.zre_records.proofs.replay.event_lines.EventLines.tell_kept.Goals as goal
 
 pub returns : goal.returns

@@ -1,8 +1,8 @@
 use Rattle.std.proofs.Common.{◌++◌, refl}
 use Rattle.zre_capture.specs.Journal.{journal, settings}
 use Rattle.zre_capture.specs.declared.format.Format.TheVariants.{Second}
-use Rattle.zre_records.proofs.replay.HeadFeeding.{lives_on, text_on}
-use Rattle.zre_records.proofs.replay.Pieces.{is_still}
+use Rattle.zre_records.proofs.replay.HeadReplayerFedPiece.{lives_on, text_on}
+use Rattle.zre_records.proofs.replay.CaptureInPieces.{is_still}
 use Rattle.zre_records.proofs.replay.head_replayer.HeadReplayerMachine.feed.Goals as goal
 
 pub returns-clause-fed : goal.returns-clause-fed

@@ -3,7 +3,7 @@ use Rattle.zre_capture.specs.Journal.{journal, settings}
 use Rattle.zre_capture.specs.declared.format.Format.TheVariants.{Second}
 use Rattle.zre_values.specs.declared.settings.Settings.{Settings}
 use Rattle.zre_records.specs.replay.Lives.{Made}
-use Rattle.zre_records.proofs.replay.HeadFeeding.{tells}
+use Rattle.zre_records.proofs.replay.HeadReplayerFedPiece.{tells}
 use Rattle.zre_records.proofs.replay.headed.Headed.read.Goals as goal
 
 pub returns : goal.returns

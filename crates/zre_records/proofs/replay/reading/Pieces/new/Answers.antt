@@ -1,4 +1,4 @@
-use Rattle.zre_records.proofs.replay.Pieces.{not_bad}
+use Rattle.zre_records.proofs.replay.CaptureInPieces.{not_bad}
 use Rattle.zre_records.proofs.replay.reading.Pieces.new.Goals as goal
 
 pub returns : goal.returns

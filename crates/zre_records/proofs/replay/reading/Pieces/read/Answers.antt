@@ -1,4 +1,4 @@
-use Rattle.zre_records.proofs.replay.Pieces.{goes_on, piece_read, is_still}
+use Rattle.zre_records.proofs.replay.CaptureInPieces.{goes_on, piece_read, is_still}
 use Rattle.zre_records.proofs.replay.reading.Pieces.read.Goals as goal
 
 pub returns-in_default : goal.returns-in_default

@@ -3,7 +3,7 @@ use Rattle.zre_capture.specs.declared.format.Format.TheVariants.{First}
 use Rattle.zre_values.specs.declared.settings.Settings.{Settings as Config}
 use Rattle.zre_node.specs.Journal.{StandsFor}
 use Rattle.zre_outside.specs.declared.entry.Entry.{Entry}
-use Rattle.zre_records.proofs.replay.Pieces.{no_entries}
+use Rattle.zre_records.proofs.replay.CaptureInPieces.{no_entries}
 use Rattle.zre_records.proofs.replay.replayer.Replayer.new.Goals as goal
 
 pub returns-clause-fed : goal.returns-clause-fed

@@ -1,5 +1,5 @@
 use Rattle.std.proofs.Common.{List, ℕ, ◌++◌, sym, ap, ◌∙◌, append-nil}
-use Rattle.zre_records.proofs.replay.Feeding.{text_nothing}
+use Rattle.zre_records.proofs.replay.ReplayerFedPiece.{text_nothing}
 use Rattle.zre_records.proofs.replay.replayer.ReplayerMachine.begin.Goals as goal
 
 pub returns : goal.returns

@@ -3,8 +3,8 @@ use Rattle.zre_capture.specs.Journal.{journal}
 use Rattle.zre_capture.specs.declared.format.Format.TheVariants.{First}
 use Rattle.zre_node.specs.Journal.{StandsFor}
 use Rattle.zre_outside.specs.declared.entry.Entry.{Entry}
-use Rattle.zre_records.proofs.replay.Feeding.{text_on}
-use Rattle.zre_records.proofs.replay.Pieces.{is_still}
+use Rattle.zre_records.proofs.replay.ReplayerFedPiece.{text_on}
+use Rattle.zre_records.proofs.replay.CaptureInPieces.{is_still}
 use Rattle.zre_records.proofs.replay.replayer.ReplayerMachine.feed.Goals as goal
 
 pub returns-clause-fed : goal.returns-clause-fed

@@ -1,5 +1,5 @@
 use Rattle.std.proofs.Common.{arith}
-use Rattle.zre_records.proofs.simulate.Keeping.{fed_on}
+use Rattle.zre_records.proofs.simulate.LongTextIsRefused.{fed_on}
 use Rattle.zre_records.proofs.simulate.simulator.SimulatorMachine.feed.Goals as goal
 
 pub returns-clause-fed : goal.returns-clause-fed

@@ -4,7 +4,7 @@ use Rattle.zre_net.proofs.Sent.{if_ok}
 use Rattle.zre_outside.specs.Told.{AppendsFront, WritesThrough}
 use Rattle.zre_values.proofs.Answered.{on_ok}
 use Rattle.zre_records.specs.simulate.Simulate.{answer}
-use Rattle.zre_records.proofs.simulate.Keeping.{as_kept, as_answered, on_err_too}
+use Rattle.zre_records.proofs.simulate.LongTextIsRefused.{as_kept, as_answered, on_err_too}
 use Rattle.zre_records.proofs.simulate.simulator.SimulatorMachine.finish.Goals as goal
 
 pub returns-clause-bad : goal.returns-clause-bad

@@ -1,8 +1,8 @@
 use Rattle.std.proofs.Common.{ap}
 use Rattle.zre_shared.specs.Replicas.{HeldWrites}
 use Rattle.zre_capture.specs.declared.format.Format.TheVariants.{Second}
-use Rattle.zre_records.proofs.replay.Pieces.{nothing_stopped}
-use Rattle.zre_records.proofs.table.Tabulating.{nothing_gathered}
+use Rattle.zre_records.proofs.replay.CaptureInPieces.{nothing_stopped}
+use Rattle.zre_records.proofs.table.TabulatorFedPiece.{nothing_gathered}
 use Rattle.zre_records.proofs.table.tabulator.Tabulator.new.Goals as goal
 
 pub returns-clause-fed : goal.returns-clause-fed

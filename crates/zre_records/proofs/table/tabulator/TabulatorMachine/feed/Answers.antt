@@ -1,8 +1,8 @@
 use Rattle.std.proofs.Common.{◌++◌}
 use Rattle.zre_capture.specs.Journal.{journal, settings}
 use Rattle.zre_capture.specs.declared.format.Format.TheVariants.{Second}
-use Rattle.zre_records.proofs.replay.Pieces.{is_still}
-use Rattle.zre_records.proofs.table.Tabulating.{nothing_written, piece_taken, lives_with}
+use Rattle.zre_records.proofs.replay.CaptureInPieces.{is_still}
+use Rattle.zre_records.proofs.table.TabulatorFedPiece.{nothing_written, piece_taken, lives_with}
 use Rattle.zre_records.proofs.table.tabulator.TabulatorMachine.feed.Goals as goal
 
 pub returns-clause-fed : goal.returns-clause-fed

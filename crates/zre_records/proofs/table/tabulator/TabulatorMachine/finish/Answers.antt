@@ -4,8 +4,8 @@ use Rattle.zre_capture.specs.declared.format.Format.TheVariants.{Second}
 use Rattle.zre_outside.proofs.Errors.{on_err}
 use Rattle.zre_outside.proofs.GatheredText.{gathers}
 use Rattle.zre_records.specs.table.Table.{text}
-use Rattle.zre_records.proofs.Endings.{bad_end, good_front, good_through}
-use Rattle.zre_records.proofs.table.Tabulating.{text_is}
+use Rattle.zre_records.proofs.CommandEnding.{bad_end, good_front, good_through}
+use Rattle.zre_records.proofs.table.TabulatorFedPiece.{text_is}
 use Rattle.zre_records.proofs.table.tabulator.TabulatorMachine.finish.Goals as goal
 
 pub returns-then-branch-clause-bad : goal.returns-then-branch-clause-bad

@@ -1,7 +1,7 @@
 use Rattle.std.proofs.Common.{sym, ap}
 use Rattle.zre_capture.specs.Journal.{last_reading}
 use Rattle.zre_capture.specs.declared.format.Format.TheVariants.{First}
-use Rattle.zre_records.proofs.replay.Pieces.{no_entries, nothing_stopped}
+use Rattle.zre_records.proofs.replay.CaptureInPieces.{no_entries, nothing_stopped}
 use Rattle.zre_records.proofs.upgrade.upgrader.Upgrader.new.Goals as goal
 
 pub returns-clause-fed : goal.returns-clause-fed

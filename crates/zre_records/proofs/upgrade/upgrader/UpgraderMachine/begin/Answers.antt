@@ -1,6 +1,6 @@
 use Rattle.std.proofs.Common.{List, ℕ, ◌++◌, sym, ap, ◌∙◌}
 use Rattle.zre_values.proofs.Answered.{on_ok}
-use Rattle.zre_records.proofs.upgrade.Feeding.{text_nothing}
+use Rattle.zre_records.proofs.upgrade.UpgraderFedPiece.{text_nothing}
 use Rattle.zre_records.proofs.upgrade.upgrader.UpgraderMachine.begin.Goals as goal
 
 pub returns : goal.returns

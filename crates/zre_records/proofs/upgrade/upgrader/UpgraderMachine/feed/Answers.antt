@@ -3,8 +3,8 @@ use Rattle.zre_capture.specs.Journal.{journal, last_reading}
 use Rattle.zre_capture.specs.declared.format.Format.TheVariants.{First}
 use Rattle.zre_outside.specs.declared.entry.Entry.{Entry}
 use Rattle.zre_records.specs.upgrade.Written.{Wrote}
-use Rattle.zre_records.proofs.replay.Pieces.{is_still}
-use Rattle.zre_records.proofs.upgrade.Feeding.{text_grows, text_on}
+use Rattle.zre_records.proofs.replay.CaptureInPieces.{is_still}
+use Rattle.zre_records.proofs.upgrade.UpgraderFedPiece.{text_grows, text_on}
 use Rattle.zre_records.proofs.upgrade.upgrader.UpgraderMachine.feed.Goals as goal
 
 pub returns-in_err-entries-clause-longer : goal.returns-in_err-entries-clause-longer

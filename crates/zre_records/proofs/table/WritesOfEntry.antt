@@ -15,7 +15,7 @@ use Rattle.zre_peer.specs.declared.event.Event.{Event}
 use Rattle.zre_shared.specs.Replicas.{HeldWrites}
 use Rattle.zre_records.specs.table.Kept.{Gathered, Keeps}
 use Rattle.zre_records.specs.table.Writes.{frames_told, frames_shouted, is_refusal, frames_at, frames_after, frames}
-use Rattle.zre_records.proofs.table.Keeping.{keeps_same}
+use Rattle.zre_records.proofs.table.FramesTaken.{keeps_same}
 
 frames-append : (g : Config) (group : List ℕ) (J K : List Entry) (H : List Mark) → frames_after g group (J ++ K) H ≡ frames_after g group J H ++ frames_after g group K (chronicle_after g J H)
 frames-append g group [] K H = refl

@@ -19,7 +19,7 @@ use Rattle.zre_records.specs.table.Kept.{GatheredIfAny, Keeps}
 use Rattle.zre_records.specs.table.Table.{text, table}
 use Rattle.zre_records.specs.table.Tabulator.{Fed}
 use Rattle.zre_records.specs.table.Writes.{frames, writes}
-use Rattle.zre_records.proofs.replay.HeadFeeding.{no_journal, no_settings, tells}
+use Rattle.zre_records.proofs.replay.HeadReplayerFedPiece.{no_journal, no_settings, tells}
 
 -- nothing is written before the end
 pub nothing_written : (group : List ℕ) (o x out : List ℕ) → Grows (table group) o x out out

@@ -6,8 +6,8 @@ use Rattle.zre_capture.proofs.BadStaysBad.{bad_stays}
 use Rattle.zre_commands.specs.pump.Meaning.{KeepsRefusing}
 use Rattle.zre_records.specs.audit.Audit as audits
 use Rattle.zre_records.specs.simulate.Simulate as simulates
-use Rattle.zre_records.proofs.audit.Auditing as auditing
-use Rattle.zre_records.proofs.audit.Auditing.{or_there}
+use Rattle.zre_records.proofs.audit.AuditorAtEnd as auditing
+use Rattle.zre_records.proofs.audit.AuditorAtEnd.{or_there}
 
 -- of two captures
 pub audit_refuses : KeepsRefusing audits.audit

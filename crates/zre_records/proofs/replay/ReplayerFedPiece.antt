@@ -14,7 +14,7 @@ use Rattle.zre_peer.specs.declared.event.Event.{Event}
 use Rattle.zre_commands.specs.pump.Meaning.{Grows}
 use Rattle.zre_records.specs.replay.Replay.{text, replay}
 use Rattle.zre_records.specs.replay.Taken.{Took}
-use Rattle.zre_records.proofs.replay.Pieces.{no_entries}
+use Rattle.zre_records.proofs.replay.CaptureInPieces.{no_entries}
 
 -- more events have more lines
 pub lines_more : (g : Config) (J K : List Entry) (told : List Event) → events g (J ++ K) ≡ events g J ++ told → lines (events g (J ++ K)) ≡ lines (events g J) ++ lines told

@@ -11,7 +11,7 @@ use Rattle.zre_capture.proofs.Growing.{journal_grows}
 use Rattle.zre_commands.specs.pump.Meaning.{Grows}
 use Rattle.zre_records.specs.upgrade.Upgrade.{text, upgrade}
 use Rattle.zre_records.specs.upgrade.Written.{Wrote}
-use Rattle.zre_records.proofs.replay.Pieces.{no_entries}
+use Rattle.zre_records.proofs.replay.CaptureInPieces.{no_entries}
 
 pub text_nothing : (s : Settings) → text s [] ≡ head Second s
 unfolding text

@@ -17,9 +17,9 @@ use Rattle.zre_records.specs.audit.Watched.{Watched}
 use Rattle.zre_records.specs.declared.audit.auditor.Auditor.{Auditor}
 use Rattle.zre_records.specs.declared.audit.later.Later.{Later}
 use Rattle.zre_records.specs.declared.replay.headed.Headed.{Headed}
-use Rattle.zre_records.proofs.audit.Cutting.{parted_later, parted_on, all_before}
-use Rattle.zre_records.proofs.audit.Placing.{stopped_first, stopped_both, mark_not_bad}
-use Rattle.zre_records.proofs.audit.Seeking.{passed_more}
+use Rattle.zre_records.proofs.audit.SecondCaptureBegins.{parted_later, parted_on, all_before}
+use Rattle.zre_records.proofs.audit.CapturesOfText.{stopped_first, stopped_both, mark_not_bad}
+use Rattle.zre_records.proofs.audit.BeforeSecondCapture.{passed_more}
 
 -- before any octet
 pub nothing_fed : (a : Auditor) → a.seam.awaited ≡ None → a.seam.lines ≡ 0 → Watched a.first [] → a.second ≡ None → Fed a []

@@ -21,7 +21,7 @@ use Rattle.zre_peer.specs.declared.event.Event.{Event}
 use Rattle.zre_commands.specs.pump.Meaning.{Grows}
 use Rattle.zre_records.specs.replay.Lives.{Lives, AreStill, Tells, TookIfAny}
 use Rattle.zre_records.specs.replay.Replay.{told_text, told_replay}
-use Rattle.zre_records.proofs.replay.Feeding.{lines_more}
+use Rattle.zre_records.proofs.replay.ReplayerFedPiece.{lines_more}
 
 -- ---- before any octet
 

@@ -8,7 +8,7 @@ use Rattle.zre_net.specs.Said.{said, told_by}
 use Rattle.zre_net.proofs.Handing.{said_on, said_front}
 use Rattle.zre_peer.specs.declared.event.Event.{Event}
 use Rattle.zre_records.specs.simulate.Simulate.{told_lines}
-use Rattle.zre_records.proofs.simulate.Telling.{lines-both}
+use Rattle.zre_records.proofs.simulate.GatheredLines.{lines-both}
 
 -- the lines of what was told of the first moves came through
 abbrev pub CameOf : (g g' : List ℕ) (w w' : Option (List ℕ)) (moves : List Move) → Type 0

@@ -11,11 +11,11 @@ use Rattle.zre_outside.specs.declared.entry.Entry.{Entry}
 use Rattle.zre_records.specs.audit.Audit.{earlier, later, is_again, later_bad, later_bad_at_end, moved, place, judgement, verdict, audit}
 use Rattle.zre_records.specs.audit.Cut.{mark, lines_of}
 use Rattle.zre_records.specs.audit.Seam.{is_whole, after, before_seam, from_seam}
-use Rattle.zre_records.proofs.audit.Cutting.{Cutting, IsCut, cutting}
-use Rattle.zre_records.proofs.audit.Cutting.Cutting.{Cut, Alone}
-use Rattle.zre_records.proofs.audit.Lining.{settings_with_mark, journal_with_mark, bad_with_mark, bad_at_line_feed, mark_good, mark_at_end, nothing_at_end}
-use Rattle.zre_records.proofs.audit.Seeking.{lines_more}
-use Rattle.zre_records.proofs.replay.Pieces.{not_bad}
+use Rattle.zre_records.proofs.audit.SecondCaptureBegins.{Cutting, IsCut, cutting}
+use Rattle.zre_records.proofs.audit.SecondCaptureBegins.Cutting.{Cut, Alone}
+use Rattle.zre_records.proofs.audit.UnfinishedLine.{settings_with_mark, journal_with_mark, bad_with_mark, bad_at_line_feed, mark_good, mark_at_end, nothing_at_end}
+use Rattle.zre_records.proofs.audit.BeforeSecondCapture.{lines_more}
+use Rattle.zre_records.proofs.replay.CaptureInPieces.{not_bad}
 
 -- ---- the first capture
 

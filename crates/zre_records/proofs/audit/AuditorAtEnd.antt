@@ -13,9 +13,9 @@ use Rattle.zre_records.specs.audit.Audit.{earlier, own_front, is_again, later_ba
 use Rattle.zre_records.specs.audit.Cut.{mark, lines_of}
 use Rattle.zre_records.specs.audit.Seam.{after, parted, before_seam, from_seam}
 use Rattle.zre_commands.specs.pump.Meaning.{Grows, KeepsRefusing}
-use Rattle.zre_records.proofs.audit.Cutting.{parted_later, parted_on, all_before}
-use Rattle.zre_records.proofs.replay.Pieces.{nothing_stopped}
-use Rattle.zre_records.proofs.audit.Placing.{is_earlier, stopped_first, stopped_both, place_both}
+use Rattle.zre_records.proofs.audit.SecondCaptureBegins.{parted_later, parted_on, all_before}
+use Rattle.zre_records.proofs.replay.CaptureInPieces.{nothing_stopped}
+use Rattle.zre_records.proofs.audit.CapturesOfText.{is_earlier, stopped_first, stopped_both, place_both}
 
 -- nothing is written before the end
 pub nothing_written : (o x out : List ℕ) → Grows audit o x out out

@@ -15,9 +15,9 @@ use Rattle.zre_records.specs.audit.Seam.{is_whole, after, before_seam}
 use Rattle.zre_records.specs.audit.Watched.{Watched, IsWatched}
 use Rattle.zre_records.specs.declared.audit.auditor.Auditor.{Auditor}
 use Rattle.zre_records.specs.declared.audit.later.Later.{Later}
-use Rattle.zre_records.proofs.audit.Feeding.{HasSeen, has_seen, not_begun}
-use Rattle.zre_records.proofs.audit.Feeding.HasSeen.{Seen}
-use Rattle.zre_records.proofs.audit.Placing.{is_earlier, is_begun, is_none, is_marked, either_whole, place_both, place_none, place_marked, no_verdict, verdict_both}
+use Rattle.zre_records.proofs.audit.AuditorFedPiece.{HasSeen, has_seen, not_begun}
+use Rattle.zre_records.proofs.audit.AuditorFedPiece.HasSeen.{Seen}
+use Rattle.zre_records.proofs.audit.CapturesOfText.{is_earlier, is_begun, is_none, is_marked, either_whole, place_both, place_none, place_marked, no_verdict, verdict_both}
 
 lines_are : (a : Auditor) (o : List ℕ) → Fed a o → lines_of (before_seam o) ≡ a.seam.lines
 lines_are a o f = omega (arith, f.seam.lines)
