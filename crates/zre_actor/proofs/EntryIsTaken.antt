@@ -8,7 +8,7 @@ use Rattle.zre_values.specs.declared.settings.Settings.{Settings as Config}
 use Rattle.zre_journal.specs.Asked.{AreDue}
 use Rattle.zre_journal.specs.Events.{chronicle, acts, acts_after}
 use Rattle.zre_journal.specs.Laws.{Continues}
-use Rattle.zre_journal.proofs.Due.{entry_due}
+use Rattle.zre_journal.proofs.OffersAreDue.{entry_due}
 use Rattle.zre_journal.proofs.JoinedEntries.{continues}
 use Rattle.zre_node.specs.declared.node.Node.{Node}
 use Rattle.zre_node.specs.declared.effects.Step.{Step}

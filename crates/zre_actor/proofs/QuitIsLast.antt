@@ -13,7 +13,7 @@ use Rattle.zre_journal.specs.Events.{chronicle}
 use Rattle.zre_journal.specs.Happens.{has_stopped, at_input, with_entry}
 use Rattle.zre_journal.specs.Laws.{Continues}
 use Rattle.zre_journal.proofs.JoinedEntries.{continues}
-use Rattle.zre_journal.proofs.Stopping.{stopped, stop-is}
+use Rattle.zre_journal.proofs.NothingAfterStop.{stopped, stop-is}
 use Rattle.zre_actor.specs.Work.{QuitsLast}
 
 -- none of these commands is a Quit

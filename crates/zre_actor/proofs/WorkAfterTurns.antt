@@ -18,7 +18,7 @@ use Rattle.zre_outside.specs.declared.sink.NextFault.{NextFault}
 use Rattle.zre_outside.specs.declared.sink.NextFault.TheVariants as fault
 use Rattle.zre_outside.specs.Causes.{Rose, raised}
 use Rattle.zre_outside.specs.Worlds.{Log, IsTurn, after_turn}
-use Rattle.zre_outside.proofs.Rising.{rose_since}
+use Rattle.zre_outside.proofs.CountsThatRose.{rose_since}
 use Rattle.zre_peer.specs.declared.event.Event.{Event}
 use Rattle.zre_values.specs.declared.settings.Settings.{Settings as Config}
 use Rattle.zre_journal.specs.Events.{chronicle, events}

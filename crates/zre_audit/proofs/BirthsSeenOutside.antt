@@ -41,11 +41,11 @@ use Rattle.zre_journal.specs.Proper.{IsProper}
 use Rattle.zre_journal.specs.Pushes.{birth, hello}
 use Rattle.zre_journal.specs.Told.{told, told_at, by_message, exit, becoming_evasive}
 use Rattle.zre_journal.proofs.JoinedEntries.{after-append, told-append, done-append}
-use Rattle.zre_journal.proofs.Known.{newborn_known}
+use Rattle.zre_journal.proofs.KnownPeers.{newborn_known}
 use Rattle.zre_journal.proofs.SaidOnConnections.{input_allowed}
 use Rattle.zre_journal.proofs.ProperPeers.{Comes-proper}
 use Rattle.zre_journal.proofs.WhenMarksCome.{May, Allowed, Each, steps, choice}
-use Rattle.zre_journal.proofs.Telling.{first_is_hello}
+use Rattle.zre_journal.proofs.EventsInTurn.{first_is_hello}
 use Rattle.zre_journal.proofs.NumberedLists.{All-join}
 use Rattle.zre_audit.specs.Exchanged.{peer_on}
 use Rattle.zre_audit.specs.Seen.{asked_by, announced_by, is_connect, entered_by, first_entered, born_with}

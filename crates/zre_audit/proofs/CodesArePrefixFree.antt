@@ -5,7 +5,7 @@ use Rattle.std.proofs.lemmas.List.Concat.{flat_map-cons}
 use Rattle.std.specs.Prelude.{flat_map}
 use Rattle.zre_audit.specs.Prefixes.{begins}
 use Rattle.zre_audit.specs.Coding.{escaped, part, parts}
-use Rattle.zre_values.proofs.Quotes.{heads}
+use Rattle.zre_values.proofs.QuotedTexts.{heads}
 
 -- ---- one octet
 

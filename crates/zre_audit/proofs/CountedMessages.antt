@@ -9,7 +9,7 @@ use Rattle.zre_journal.specs.Events.{chronicle}
 use Rattle.zre_journal.specs.Links.{bodies}
 use Rattle.zre_journal.specs.Peers.{Life, lives, life, life_of}
 use Rattle.zre_journal.proofs.ProperChronicles.{is_proper}
-use Rattle.zre_journal.proofs.Known.{AreKnown, each_known, known_of}
+use Rattle.zre_journal.proofs.KnownPeers.{AreKnown, each_known, known_of}
 use Rattle.zre_journal.proofs.NumberedLists.{some_is}
 use Rattle.zre_journal.proofs.ProperPeers.{known_lives}
 use Rattle.zre_values.specs.declared.peer_id.PeerId.{PeerId}

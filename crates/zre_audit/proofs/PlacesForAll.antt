@@ -7,7 +7,7 @@ use Rattle.std.proofs.lemmas.List.Sums.{sum_by-cons, sum_by-append}
 use Rattle.std.specs.Cmp.{IsEquivalence}
 use Rattle.std.specs.List.{AllByRecursion}
 use Rattle.zre_audit.specs.Prefixes.{begins, begun, Fits, is_short, NoneIsShort}
-use Rattle.zre_journal.proofs.Places.{All-next}
+use Rattle.zre_journal.proofs.PlacesInLedgers.{All-next}
 
 -- ---- lists
 

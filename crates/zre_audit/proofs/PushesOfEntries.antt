@@ -23,7 +23,7 @@ use Rattle.zre_journal.specs.Peers.{Life, lives, life, life_of, is_entered}
 use Rattle.zre_journal.specs.Proper.{IsProper, Apart}
 use Rattle.zre_journal.specs.Pushes.{push, push_all}
 use Rattle.zre_journal.proofs.JoinedEntries.{after-append}
-use Rattle.zre_journal.proofs.Known.{life_stays, known_of, AreKnown, each_known, still_known}
+use Rattle.zre_journal.proofs.KnownPeers.{life_stays, known_of, AreKnown, each_known, still_known}
 use Rattle.zre_journal.proofs.NumberedLists.{All-kept, Apart-kept, eqb-comm, some_is, any_found}
 use Rattle.zre_journal.proofs.ProperPeers.{Comes-proper}
 use Rattle.zre_audit.specs.Kept.{reached}

@@ -15,13 +15,13 @@ use Rattle.zre_link.specs.Heard.{reply_fault}
 use Rattle.zre_link.specs.Link.{answered, slow_at}
 use Rattle.zre_link.specs.Text.{Member, Says, Pongs, bodies_in, size_of}
 use Rattle.zre_values.specs.declared.settings.Settings.{Settings as Config}
-use Rattle.zre_journal.specs.Chronicle.{Mark, Shakes, Starts, Closes, IsShut, ClosesAtStop, Born, Ends, IsEvasive, Puts, PutsPong, SendsBeacon, Stops, after, followed}
+use Rattle.zre_journal.specs.Chronicle.{Mark, Identifies, Starts, Closes, IsShut, ClosesAtStop, Born, Ends, IsEvasive, Puts, PutsPong, SendsBeacon, Stops, after, followed}
 use Rattle.zre_journal.specs.Connections.{open_ones, is_new, is_open, runs, other_with}
 use Rattle.zre_journal.specs.Done.{done, done_at, close_link}
 use Rattle.zre_journal.specs.Peers.{Life, lives, births, counted}
 use Rattle.zre_journal.specs.Links.{line, bodies, unsent, is_linked, replies, newly_pinged, groups, status}
 use Rattle.zre_journal.specs.Pushes.{push, push_all}
-use Rattle.zre_journal.specs.Arrivals.{at_opened, end_of_run, at_shut, taken_over, answer_to, at_later, at_shaken}
+use Rattle.zre_journal.specs.Arrivals.{at_opened, end_of_run, at_shut, taken_over, answer_to, at_later, at_ready}
 use Rattle.zre_journal.specs.LinkEntries.{at_linked, cause_by_reply, end_by, at_reply, at_unlinked, at_took}
 use Rattle.zre_journal.specs.Ticks.{is_silent, is_evasive, is_stale, probe, at_tick}
 use Rattle.zre_journal.specs.Commands.{has_group, at_join, at_leave, at_stop}
@@ -218,9 +218,9 @@ module _ (g : Config) where
   still_taken None K = tt
   still_taken (Some d) K = still_both (end_of_run g (runs d K) cause.Taken) (Closes d close.Taken ∷ []) (still_run (runs d K) cause.Taken) ((tt, tt, tt), tt)
 
-  pub still_shaken : (c : ℕ) (p : PeerId) (o : Option PeerId) (K : List Mark) → AreStill (at_shaken g c p o K)
+  pub still_shaken : (c : ℕ) (p : PeerId) (o : Option PeerId) (K : List Mark) → AreStill (at_ready g c p o K)
   still_shaken c p (Some i) K = tt
-  still_shaken c p None K = still_both (taken_over g (other_with p c K) K) (Shakes c p ∷ []) (still_taken (other_with p c K) K) ((tt, tt, tt), tt)
+  still_shaken c p None K = still_both (taken_over g (other_with p c K) K) (Identifies c p ∷ []) (still_taken (other_with p c K) K) ((tt, tt, tt), tt)
 
   pub still_later : (c l : ℕ) (m : Message) (K : List Mark) → AreStill (at_later g c l m K)
   still_later c l m K = choice S (is_hello m.body) _ _ (λ z. ((tt, tt, tt), tt))

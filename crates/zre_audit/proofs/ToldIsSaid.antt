@@ -28,10 +28,10 @@ use Rattle.zre_journal.specs.Proper.{IsProper}
 use Rattle.zre_journal.proofs.ProperChronicles.{always}
 use Rattle.zre_journal.proofs.WithinCounts.{AreNamed, named_more, at_end, AtEnd, Front, Back, another, ids_apart}
 use Rattle.zre_journal.proofs.ProperPeers.{known_lives, run_known, run_is}
-use Rattle.zre_journal.proofs.Known.{same_id, life_stays}
+use Rattle.zre_journal.proofs.KnownPeers.{same_id, life_stays}
 use Rattle.zre_journal.proofs.NumberedLists.{some_is, eqb-comm}
 use Rattle.zre_journal.proofs.WhenMarksCome.{May, step}
-use Rattle.zre_journal.proofs.Telling.{events_are, first_is_hello}
+use Rattle.zre_journal.proofs.EventsInTurn.{events_are, first_is_hello}
 use Rattle.zre_audit.specs.Coding.{octets_of, code}
 use Rattle.zre_audit.specs.Exchanged.{is_said, said, bodies_of, peer_on, run_at, runs_of, heard}
 use Rattle.zre_audit.specs.Told.{at_last, runs_with, runs_after}

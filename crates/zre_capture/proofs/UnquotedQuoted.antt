@@ -8,7 +8,7 @@ use Rattle.std.proofs.lemmas.List.Concat.{flat_map-cons}
 use Rattle.std.proofs.lemmas.List.Elements.{All-head, All-tail}
 use Rattle.std.proofs.lemmas.Slice.Eq.{bytes_eq-Decides}
 use Rattle.zre_values.specs.Text.{hex_digit, is_plain, quoted_octet, quoted}
-use Rattle.zre_values.proofs.Quotes.{quoted-one}
+use Rattle.zre_values.proofs.QuotedTexts.{quoted-one}
 use Rattle.zre_capture.specs.Values.{digit_value, unescaped, unquoted}
 
 value-digit : (n : ℕ) → n < 16 → digit_value (hex_digit n) ≡ n

@@ -5,7 +5,7 @@ use Rattle.zre_zmtp.specs.Reading.{IsOver}
 use Rattle.zre_zmtp.specs.Stream.{Kind, Whole, Traffic, fault}
 use Rattle.zre_zmtp.specs.declared.fault.ZmtpFault.{ZmtpFault}
 use Rattle.zre_zmtp.specs.declared.want.Want.TheVariants.{Any}
-use Rattle.zre_zmtp.proofs.Feeding.{is_over as stays_faulty}
+use Rattle.zre_zmtp.proofs.ReadersFollowStreams.{is_over as stays_faulty}
 use Rattle.zre_commands.specs.pump.Meaning.{KeepsRefusing}
 use Rattle.zre_commands.specs.follow.Follow as follows
 use Rattle.zre_commands.specs.follow.Messages.{messages, messages_in}

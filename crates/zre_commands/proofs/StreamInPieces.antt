@@ -7,7 +7,7 @@ use Rattle.zre_zmtp.specs.declared.want.Want.TheVariants.{Any}
 use Rattle.zre_zmtp.specs.declared.fault.ZmtpFault.{ZmtpFault}
 use Rattle.zre_zmtp.specs.declared.item.Item.{Item}
 use Rattle.zre_commands.specs.Stream.{HasRead, ReadPiece}
-use Rattle.zre_capture.proofs.Lines.{none_is}
+use Rattle.zre_capture.proofs.LineByLine.{none_is}
 
 -- where no fault was found the reader stands after the octets
 pub going_reads : (kind : Kind) (o : List ℕ) (found : Option ZmtpFault) (reader : Reading) → HasRead kind o found reader → is_some (fault Any kind o) ≡ false → Reads Any kind o reader

@@ -15,17 +15,17 @@ use Rattle.zre_outside.specs.declared.start.Start.{Start}
 use Rattle.zre_outside.specs.Causes.{Rose}
 use Rattle.zre_outside.specs.Told.{AppendsFront}
 use Rattle.zre_outside.specs.Worlds.{with_start}
-use Rattle.zre_outside.proofs.Rising.{rose_since}
+use Rattle.zre_outside.proofs.CountsThatRose.{rose_since}
 use Rattle.zre_peer.specs.Lines.{line, lines}
 use Rattle.zre_values.specs.declared.settings.Settings.{Settings as Config}
 use Rattle.zre_journal.specs.Config.{CanBe}
 use Rattle.zre_journal.specs.Endings.{is_end}
 use Rattle.zre_journal.specs.Events.{chronicle, events}
 use Rattle.zre_journal.specs.Happens.{has_stopped}
-use Rattle.zre_journal.proofs.Stops.{told_to_stop}
+use Rattle.zre_journal.proofs.StopsAreTold.{told_to_stop}
 use Rattle.zre_node.specs.declared.node.Node.{Node}
 use Rattle.zre_node.specs.Journal.{StandsFor, is_spent}
-use Rattle.zre_node.proofs.Amounts.{can_be}
+use Rattle.zre_node.proofs.HeldAmounts.{can_be}
 use Rattle.zre_capture.specs.Lines as capture
 use Rattle.zre_capture.specs.Journal.{last_reading}
 use Rattle.zre_capture.specs.declared.format.Format.TheVariants.{Second}

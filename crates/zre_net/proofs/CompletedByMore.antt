@@ -5,12 +5,12 @@ use Rattle.zre_zmtp.specs.Reading.{IsOver}
 use Rattle.zre_zmtp.specs.Stream.{Whole}
 use Rattle.zre_zmtp.specs.declared.want.Want.TheVariants.{Dealer}
 use Rattle.zre_zmtp.specs.declared.fault.ZmtpFault.{ZmtpFault}
-use Rattle.zre_zmtp.proofs.Feeding.{is_over}
+use Rattle.zre_zmtp.proofs.ReadersFollowStreams.{is_over}
 use Rattle.zre_mailbox.specs.Conn.{ConnHearing, conn_after, phase_by, reading, identity_in, is_spent, is_ignored, is_spent_in, Hears}
 use Rattle.zre_mailbox.specs.Talk.{Arrived, arrivals, arrivals_in, fault_in, fault_said, new_arrivals, completed}
 use Rattle.zre_mailbox.specs.declared.arrival.Arrival.{Arrival}
-use Rattle.zre_mailbox.proofs.Growing.{goes}
-use Rattle.zre_tables.proofs.Hearings.{never_ignored}
+use Rattle.zre_mailbox.proofs.TalkGrows.{goes}
+use Rattle.zre_tables.proofs.FedConnections.{never_ignored}
 
 spent_fault : (own : PeerId) (o : List ℕ) → is_spent (conn_after own o) ≡ true → (f : ZmtpFault) × (fault_in own o ≡ Some f)
 spent_fault own o s = by (fault_in own o) refl s

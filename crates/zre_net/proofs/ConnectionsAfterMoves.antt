@@ -9,7 +9,7 @@ use Rattle.zre_outside.specs.declared.entry.Input.{Input}
 use Rattle.zre_outside.specs.declared.entry.Input.TheVariants as input
 use Rattle.zre_journal.specs.Chronicle.{followed}
 use Rattle.zre_journal.specs.Heard.{bytes, was_opened}
-use Rattle.zre_journal.proofs.Keeping.{keeps}
+use Rattle.zre_journal.proofs.ChroniclesKeepJournals.{keeps}
 use Rattle.zre_journal.proofs.HeardUnchanged.{is_of}
 use Rattle.zre_net.specs.declared.moves.Move.{Move}
 use Rattle.zre_net.specs.declared.moves.Move.TheVariants as move

@@ -7,7 +7,7 @@ use Rattle.zre_values.specs.declared.peer_id.PeerId.{PeerId}
 use Rattle.zre_capture.specs.Parts.{◌>>=◌, two}
 use Rattle.zre_capture.specs.Reading.{fields_in, two_numbers, number_and_hex, command_in}
 use Rattle.zre_capture.specs.Values.{number_of, address_of, group_of, id_of}
-use Rattle.zre_capture.proofs.Spelled.{id_of-some, address_of-some}
+use Rattle.zre_capture.proofs.FieldTexts.{id_of-some, address_of-some}
 use Rattle.zre_net.specs.declared.limits.TheConstants.{NAME_OCTETS}
 use Rattle.zre_net.specs.declared.word.MoveWord.{MoveWord}
 use Rattle.zre_net.specs.declared.word.MoveWord.TheVariants as word

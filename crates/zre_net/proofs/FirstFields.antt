@@ -1,7 +1,7 @@
 -- The first of several fields.
 use Rattle.std.proofs.Common.{◌≡◌, ℕ, ◌<◌, Bor, List, [], ◌∷◌, length, Option, Some, None, MatchOption, option_map, refl, ap, sym, ◌∙◌, arith}
 use Rattle.zre_capture.specs.Reading.{fields_in}
-use Rattle.zre_capture.proofs.Fields.{some_fields}
+use Rattle.zre_capture.proofs.FieldByField.{some_fields}
 use Rattle.zre_net.specs.Fields.{cut}
 
 cut_of : (f : List ℕ) (fs : List (List ℕ)) → 0 < length fs → cut (f ∷ fs) ≡ Some (f, fs)

@@ -26,21 +26,21 @@ use Rattle.zre_link.specs.Heard.{reply_fault}
 use Rattle.zre_link.specs.Link.{answered, slow_at}
 use Rattle.zre_link.specs.Text.{size_of}
 use Rattle.zre_values.specs.declared.settings.Settings.{Settings as Config}
-use Rattle.zre_journal.specs.Chronicle.{Mark, Opens, TurnsAway, Greets, Shakes, AnswersPing, Starts, Counts, Ignores, Closes, IsShut, ClosesAtStop, HearsBeacon, Ends, IsEvasive, PutsPong, Links, Sends, Joins, Leaves, Refuses, SendsBeacon, Stops, after}
+use Rattle.zre_journal.specs.Chronicle.{Mark, Opens, TurnsAway, Greets, Identifies, AnswersPing, Starts, Counts, Ignores, Closes, IsShut, ClosesAtStop, HearsBeacon, Ends, IsEvasive, PutsPong, Links, Sends, Joins, Leaves, Refuses, SendsBeacon, Stops, after}
 use Rattle.zre_journal.specs.Connections.{open_ones, is_new, is_open, is_live, runs, identity, is_end_of, other_with}
 use Rattle.zre_journal.specs.Done.{puts}
 use Rattle.zre_journal.specs.Peers.{Life, lives, life, life_of, is_entered, counted}
 use Rattle.zre_journal.specs.Links.{line, unsent, is_linked, replies, newly_pinged, gate, taken, groups, status}
 use Rattle.zre_journal.specs.Proper.{IsProper, Apart}
 use Rattle.zre_journal.specs.Pushes.{push, push_all, birth}
-use Rattle.zre_journal.specs.Arrivals.{at_opened, end_of_run, at_shut, taken_over, start_unknown, start, at_first, answer_to, at_later, at_message, at_shaken, at_said, at_place, at_places}
+use Rattle.zre_journal.specs.Arrivals.{at_opened, end_of_run, at_shut, taken_over, start_unknown, start, at_first, answer_to, at_later, at_message, at_ready, at_said, at_place, at_places}
 use Rattle.zre_journal.specs.Happens.{is_welcome, at_beacon, at_datagram, at_input}
 use Rattle.zre_journal.specs.Heard.{newly_completed}
 use Rattle.zre_journal.specs.LinkEntries.{at_linked, cause_by_reply, end_by, at_reply, at_unlinked, at_took}
 use Rattle.zre_journal.specs.Ticks.{is_silent, is_evasive, probe, at_tick}
 use Rattle.zre_journal.specs.Commands.{has_group, at_join, at_leave, is_too_big, at_whisper, is_member, at_shout, at_stop, at_command}
 use Rattle.zre_journal.proofs.NumberedLists.{All-kept, Apart-kept, All-join}
-use Rattle.zre_journal.proofs.Ticks.{expiring, wavering, stale, wavering_apart, excludes}
+use Rattle.zre_journal.proofs.ExpiringAtTicks.{expiring, wavering, stale, wavering_apart, excludes}
 use Rattle.zre_journal.proofs.WhenMarksCome.{choice}
 use Rattle.zre_net.specs.Sender.{is_slight}
 
@@ -280,9 +280,9 @@ module _ (l : ℕ) where
       taken_quiet None = tt
       taken_quiet (Some d) = quiet_both (end_of_run g (runs d K) cause.Taken) (Closes d close.Taken ∷ []) (quiet_run g (runs d K) cause.Taken) (refl, tt)
 
-      shaken_fate : (c : ℕ) (p : PeerId) (o : Option PeerId) → Fate l (at_shaken g c p o K)
+      shaken_fate : (c : ℕ) (p : PeerId) (o : Option PeerId) → Fate l (at_ready g c p o K)
       shaken_fate c p (Some i) = inl tt
-      shaken_fate c p None = inl (quiet_both (taken_over g (other_with p c K) K) (Shakes c p ∷ []) (taken_quiet (other_with p c K)) (refl, tt))
+      shaken_fate c p None = inl (quiet_both (taken_over g (other_with p c K) K) (Identifies c p ∷ []) (taken_quiet (other_with p c K)) (refl, tt))
 
       said_fate : (c : ℕ) (said : Said) → Fate l (at_said g c said K)
       said_fate c (Arrived arrival.Greeted) = one (Greets c) refl

@@ -13,9 +13,9 @@ use Rattle.zre_mailbox.specs.declared.arrival.Arrival.TheVariants as arrival
 use Rattle.zre_mailbox.specs.Conn.{identity_in}
 use Rattle.zre_mailbox.specs.Talk.{Arrived, arrivals, fault_in, fault_said, talk}
 use Rattle.zre_mailbox.specs.Utterances.{Utterance, Greeting, Ready, Says, stream, said_by, messages, IsReadable, IsHearable, up_to_greeting, heard as heard_of}
-use Rattle.zre_mailbox.proofs.Growing.{goes, nothing_said}
-use Rattle.zre_mailbox.proofs.Hearing.{identity_kept}
-use Rattle.zre_mailbox.proofs.Utterances.{are_heard}
+use Rattle.zre_mailbox.proofs.TalkGrows.{goes, nothing_said}
+use Rattle.zre_mailbox.proofs.ConnAfterOctets.{introduced_stays}
+use Rattle.zre_mailbox.proofs.ArrivalsOfUtterances.{are_heard}
 use Rattle.zre_peer.specs.Ledger.{IsNumbered, IsPicked, ArePicked}
 use Rattle.zre_peer.specs.Runs.{told}
 use Rattle.zre_peer.specs.Views.{view_of}
@@ -29,16 +29,16 @@ use Rattle.zre_journal.specs.Laws.{message_on, counted_on}
 use Rattle.zre_journal.specs.Ledger.{Ledger, IsDrawn, KeepsLedger}
 use Rattle.zre_journal.specs.Peers.{Life, life, runner, counted, message_at}
 use Rattle.zre_journal.specs.Proper.{IsProper}
-use Rattle.zre_journal.proofs.Identities.{is_introduced}
-use Rattle.zre_journal.proofs.Keeping.{keeps}
-use Rattle.zre_journal.proofs.Lawful.{IsTold, none_told, told_more}
-use Rattle.zre_journal.proofs.Ledgers.{front_picked}
+use Rattle.zre_journal.proofs.IdentitiesOfReady.{is_introduced}
+use Rattle.zre_journal.proofs.ChroniclesKeepJournals.{keeps}
+use Rattle.zre_journal.proofs.LawsOfChronicles.{IsTold, none_told, told_more}
+use Rattle.zre_journal.proofs.MessagesOfLedgers.{front_picked}
 use Rattle.zre_journal.proofs.NumberedLists.{any_has}
-use Rattle.zre_journal.proofs.Moments.{at_moments, each_grows, still_opened, still_identified}
-use Rattle.zre_journal.proofs.Passing.{ArePassed, passed_more, none_passed}
+use Rattle.zre_journal.proofs.LaterMoments.{at_moments, each_grows, still_opened, still_identified}
+use Rattle.zre_journal.proofs.EventsFollowMessages.{ArePassed, passed_more, none_passed}
 use Rattle.zre_journal.proofs.ProperPeers.{has_started, run_is}
 use Rattle.zre_journal.proofs.SaidOnLinks.{spoke_truly, are_readable}
-use Rattle.zre_journal.proofs.Windows.{keeps_ledgers}
+use Rattle.zre_journal.proofs.NearMessages.{keeps_ledgers}
 use Rattle.zre_net.specs.declared.moves.Part.{Part}
 use Rattle.zre_net.specs.declared.moves.Part.TheVariants as part
 use Rattle.zre_net.specs.Agreement.{number_in, carried, ledger_of, IsWithinWindow, IsShown, Agrees, streamed}
@@ -322,7 +322,7 @@ module _ (H : List Happening) (s : Carries H) (near : IsWithinWindow H) (b : Inc
     peer =
         let k = s.each x c found.there in
         let i = still_identified g J later K at x v.id (now.proper.running.is_its_own x v.link v is_run start.1 life_is) in
-        let j = identity_kept g.id (bytes x A) (pending x H) v.id (is_introduced g J x v.id i) in
+        let j = introduced_stays g.id (bytes x A) (pending x H) v.id (is_introduced g J x v.id i) in
         said_identity g.id (who c) v.id (us x c found.there) (sym (ap identity_in (come x c found.there found.here opened)) ∙ j)
 
     pub agrees : Agrees H b x K v

@@ -19,7 +19,7 @@ use Rattle.zre_journal.specs.Events.{chronicle, events_at}
 use Rattle.zre_journal.specs.Happens.{has_stopped, is_stop, with_entry}
 use Rattle.zre_journal.specs.Heard.{bytes, was_opened, opens, piece_of}
 use Rattle.zre_journal.proofs.WithoutEntryMarks.{through, ever_but}
-use Rattle.zre_journal.proofs.Cutting.{same_cut, events_twice, acts_twice}
+use Rattle.zre_journal.proofs.CutPieces.{same_cut, events_twice, acts_twice}
 use Rattle.zre_journal.proofs.JoinedEntries.{continues}
 use Rattle.zre_net.specs.declared.moves.Move.TheVariants as move
 use Rattle.zre_net.specs.declared.running.read_side.ReadSide.{ReadSide}

@@ -23,7 +23,7 @@ use Rattle.zre_journal.specs.Peers.{Life, life, lives, births, runner, runner_at
 use Rattle.zre_journal.specs.Proper.{IsProper}
 use Rattle.zre_journal.proofs.ProperChronicles.{is_proper}
 use Rattle.zre_journal.proofs.WithoutEntryMarks.{through, same_runs, same_ignored, latest_but, each_but, ever_but, lives_but, births_but, open_but, groups_but, status_but, taken_but}
-use Rattle.zre_journal.proofs.Cutting.{same_cut}
+use Rattle.zre_journal.proofs.CutPieces.{same_cut}
 use Rattle.zre_net.proofs.SameMarksWhenCut.{Sim, new_but, sim}
 use Rattle.zre_node.specs.Journal.{StandsIn, StandsFor}
 use Rattle.zre_node.specs.Stands.{Holds, Rests, IsKept, IsPeer, IsConn, kept_conn, heard_by, link_of_life}
@@ -32,7 +32,7 @@ use Rattle.zre_node.specs.declared.node.Node.{Node}
 use Rattle.zre_tables.specs.declared.peer.Peer.{Peer}
 use Rattle.zre_node.specs.declared.tables.Tables.{Tables}
 use Rattle.zre_tables.specs.Tabled.{Tabled}
-use Rattle.zre_tables.proofs.Entries.{retold}
+use Rattle.zre_tables.proofs.EntriesOfMaps.{retold}
 
 -- ---- the tables of a node hold in either
 

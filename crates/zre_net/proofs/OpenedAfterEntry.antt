@@ -8,7 +8,7 @@ use Rattle.zre_values.specs.declared.settings.Settings.{Settings as Config}
 use Rattle.zre_journal.specs.Commands.{at_stop}
 use Rattle.zre_journal.specs.Cutting.{is_entry}
 use Rattle.zre_journal.specs.Peers.{Life, lives}
-use Rattle.zre_journal.proofs.Stopping.{at_end}
+use Rattle.zre_journal.proofs.NothingAfterStop.{at_end}
 use Rattle.zre_peer.specs.declared.causes.Cause.TheVariants as cause
 use Rattle.zre_journal.specs.Chronicle.{Mark, Comes, Opens, TurnsAway, Ends, ClosesAtStop, SendsBeacon, Stops, after}
 use Rattle.zre_journal.specs.Connections.{is_new, open_ones}
@@ -18,7 +18,7 @@ use Rattle.zre_journal.specs.Happens.{has_stopped, at_input, with_entry}
 use Rattle.zre_journal.specs.Heard.{bytes, was_opened, piece_of}
 use Rattle.zre_journal.specs.Proper.{IsProper}
 use Rattle.zre_journal.proofs.ProperChronicles.{is_proper}
-use Rattle.zre_journal.proofs.Cutting.{AreInner, inner_of, inner_bytes}
+use Rattle.zre_journal.proofs.CutPieces.{AreInner, inner_of, inner_bytes}
 use Rattle.zre_journal.proofs.MarkByMark.{are_others}
 use Rattle.zre_journal.proofs.SaidOnConnections.{input_sound, input_allowed, input_quiet}
 use Rattle.zre_journal.proofs.ProperPeers.{Comes-proper}

@@ -5,7 +5,7 @@ use Rattle.zre_outside.specs.declared.entry.Entry.{Entry}
 use Rattle.zre_msg.specs.declared.message.Body.{Body}
 use Rattle.zre_msg.specs.Spelling.{octets}
 use Rattle.zre_link.specs.Text.{Member, Says, Pongs, bodies_in, numbered_from, text_of, next_message}
-use Rattle.zre_link.proofs.Numbered.{bodies-more, text_more}
+use Rattle.zre_link.proofs.AppendedMembers.{bodies-more, text_more}
 use Rattle.zre_values.specs.declared.settings.Settings.{Settings as Config}
 use Rattle.zre_journal.specs.Chronicle.{Mark, Comes, Puts, PutsPong, Sends, Ends, Born, after, followed}
 use Rattle.zre_journal.specs.Connections.{is_end_of}
@@ -17,7 +17,7 @@ use Rattle.zre_journal.specs.Peers.{Life, lives, life}
 use Rattle.zre_journal.specs.Proper.{IsProper}
 use Rattle.zre_journal.proofs.ProperChronicles.{is_proper}
 use Rattle.zre_journal.proofs.JoinedEntries.{continues}
-use Rattle.zre_journal.proofs.Known.{life_stays}
+use Rattle.zre_journal.proofs.KnownPeers.{life_stays}
 use Rattle.zre_journal.proofs.NumberedLists.{eqb-comm}
 use Rattle.zre_journal.proofs.SaidOnConnections.{input_allowed}
 use Rattle.zre_journal.proofs.ProperPeers.{Comes-proper}

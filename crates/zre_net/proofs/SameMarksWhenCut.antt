@@ -15,7 +15,7 @@ use Rattle.zre_journal.specs.Links.{is_linked, replies}
 use Rattle.zre_journal.specs.Peers.{refreshes, active}
 use Rattle.zre_journal.proofs.ProperChronicles.{is_proper}
 use Rattle.zre_journal.proofs.WithoutEntryMarks.{same_runs}
-use Rattle.zre_journal.proofs.Cutting.{AreInner, inner_of, inner_clock, same_cut}
+use Rattle.zre_journal.proofs.CutPieces.{AreInner, inner_of, inner_clock, same_cut}
 use Rattle.zre_journal.proofs.MarkByMark.{are_others}
 use Rattle.zre_journal.proofs.JoinedEntries.{continues, after-append}
 use Rattle.zre_journal.proofs.SaidOnConnections.{input_sound}

@@ -2,8 +2,8 @@
 use Rattle.std.proofs.Common.{◌≡◌, ℕ, ◌+◌, ◌<◌, ◌==◌, ◌&&◌, not, cond, List, [], ◌∷◌, ◌++◌, length, Some, None, refl, ap, ◌∙◌, arith}
 use Rattle.std.proofs.lemmas.List.Splits.{length-slice_split}
 use Rattle.zre_capture.specs.Parts.{Lacks}
-use Rattle.zre_capture.proofs.Parts.{between-cut, between-whole}
-use Rattle.zre_capture.proofs.Columns.{but_last-more}
+use Rattle.zre_capture.proofs.TextParts.{between-cut, between-whole}
+use Rattle.zre_capture.proofs.FirstBadColumn.{but_last-more}
 use Rattle.zre_net.specs.Fields.{move_of}
 use Rattle.zre_net.specs.Reading.{parts_in, but_last, lines_in, is_line, bad_from, with_first, moves_in, moves_of}
 

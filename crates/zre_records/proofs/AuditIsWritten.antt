@@ -3,7 +3,7 @@ use Rattle.std.proofs.Common.{◌≡◌, ℕ, false, List, Option, Some, None, r
 use Rattle.std.specs.Prelude.{◌↔◌, is_some, codes}
 use Rattle.zre_audit.specs.Agreement.{Agree, judged}
 use Rattle.zre_audit.specs.Lines.{line}
-use Rattle.zre_audit.proofs.Pairing.{yes_is_written}
+use Rattle.zre_audit.proofs.RunsHaveLinks.{yes_is_written}
 use Rattle.zre_capture.specs.Journal.{journal, settings}
 use Rattle.zre_capture.specs.declared.fault.BadCapture.{BadCapture}
 use Rattle.zre_capture.specs.declared.format.Format.TheVariants.{Second}

@@ -8,7 +8,7 @@ use Rattle.zre_capture.specs.Lines.{IsEntry, AreShort}
 use Rattle.zre_capture.specs.declared.format.Format.TheVariants.{First, Second}
 use Rattle.zre_values.specs.declared.settings.Settings.{Settings}
 use Rattle.zre_capture.proofs.HeadShort.{head-short}
-use Rattle.zre_capture.proofs.Upgrading.{journal-are, journal-short}
+use Rattle.zre_capture.proofs.FormatUpgrade.{journal-are, journal-short}
 use Rattle.zre_capture.proofs.WholeCaptures.{captured}
 use Rattle.zre_journal.specs.Events.{events}
 use Rattle.zre_outside.specs.declared.entry.Entry.{Entry}

@@ -4,8 +4,8 @@ use Rattle.std.specs.Prelude.{is_some}
 use Rattle.std.specs.Option.{option_or}
 use Rattle.zre_net.specs.Answer.{bad_move, bad_in}
 use Rattle.zre_net.specs.Reading.{bad_line, lines_in, moves_of}
-use Rattle.zre_net.proofs.Agreed.{are_agreed}
-use Rattle.zre_net.proofs.Fielded.{are_fielded}
+use Rattle.zre_net.proofs.SchedulesAgree.{are_agreed}
+use Rattle.zre_net.proofs.FieldsOfStarts.{are_fielded}
 use Rattle.zre_records.specs.Laws.{IsSimulated}
 use Rattle.zre_records.specs.simulate.Simulate.{simulate, answer_of}
 

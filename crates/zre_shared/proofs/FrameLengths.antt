@@ -8,7 +8,7 @@ use Rattle.zre_values.specs.Text.{quoted, id_text}
 use Rattle.zre_shared.specs.declared.write.Write.{Write}
 use Rattle.zre_shared.specs.declared.gathered.TheConstants.{OCTETS}
 use Rattle.zre_capture.specs.Values.{group_of}
-use Rattle.zre_capture.proofs.Spelled.{group_of-some}
+use Rattle.zre_capture.proofs.FieldTexts.{group_of-some}
 use Rattle.zre_capture.proofs.HeadShort.{octets-short, id-short}
 use Rattle.zre_shared.specs.Writes.{write_text, IsWrite, at_most, short_of}
 

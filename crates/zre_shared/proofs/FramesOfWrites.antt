@@ -11,9 +11,9 @@ use Rattle.zre_values.specs.Text.{id_text, quoted}
 use Rattle.zre_values.specs.declared.peer_id.PeerId.{PeerId}
 use Rattle.zre_capture.specs.Parts.{between, Lacks}
 use Rattle.zre_capture.specs.Values.{number_of, id_of, group_of}
-use Rattle.zre_capture.proofs.Parts.{between-cut, between-whole}
-use Rattle.zre_capture.proofs.Spelled.{IsTextOf, number_of-decimal, number_of-some, id_of-text, id_of-some, group_of-quoted, group_of-some}
-use Rattle.zre_capture.proofs.Visible.{visible, decimal-visible, id-visible, quoted-visible, fields-joined}
+use Rattle.zre_capture.proofs.TextParts.{between-cut, between-whole}
+use Rattle.zre_capture.proofs.FieldTexts.{IsTextOf, number_of-decimal, number_of-some, id_of-text, id_of-some, group_of-quoted, group_of-some}
+use Rattle.zre_capture.proofs.VisibleFields.{visible, decimal-visible, id-visible, quoted-visible, fields-joined}
 use Rattle.zre_capture.proofs.ReadIsSpelled.{stepped}
 use Rattle.zre_shared.specs.declared.write.Write.{Write}
 use Rattle.zre_shared.specs.declared.write.TheConstants.{KEY_OCTETS, VALUE_OCTETS}

@@ -14,8 +14,8 @@ use Rattle.zre_zmtp.specs.declared.front.Front.{Front}
 use Rattle.zre_zmtp.specs.declared.fault.ZmtpFault.{ZmtpFault}
 use Rattle.zre_zmtp.specs.declared.want.Want.TheVariants.{Any}
 use Rattle.zre_zmtp.specs.declared.item.Item.{Item}
-use Rattle.zre_zmtp.proofs.Cuts.{cases_Option}
-use Rattle.zre_zmtp.proofs.Feeding.{is_over as stays_faulty}
+use Rattle.zre_zmtp.proofs.OctetsCutIntoParts.{cases_Option}
+use Rattle.zre_zmtp.proofs.ReadersFollowStreams.{is_over as stays_faulty}
 use Rattle.zre_commands.specs.declared.follow.follower.Follower.{Follower}
 use Rattle.zre_commands.specs.follow.Follow.{follow, over, text, is_stopped}
 use Rattle.zre_commands.specs.follow.Follower.{Fed, GoesOn, peer_of}

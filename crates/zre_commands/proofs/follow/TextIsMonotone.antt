@@ -13,7 +13,7 @@ use Rattle.zre_zmtp.specs.Reading.{new_items}
 use Rattle.zre_zmtp.specs.Stream.{Traffic, items, fault, cut, frame_why}
 use Rattle.zre_zmtp.specs.declared.want.Want.TheVariants.{Any}
 use Rattle.zre_zmtp.specs.declared.item.Item.{Item}
-use Rattle.zre_zmtp.proofs.Feeding.{extends}
+use Rattle.zre_zmtp.proofs.ReadersFollowStreams.{extends}
 use Rattle.zre_commands.specs.follow.Follow.{over, text, is_stopped, is_bad}
 use Rattle.zre_commands.specs.follow.Messages.{meant, messages_in, messages}
 use Rattle.zre_commands.specs.follow.Runs.{told, events_after, is_over}

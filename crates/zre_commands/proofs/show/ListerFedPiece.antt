@@ -8,7 +8,7 @@ use Rattle.zre_zmtp.specs.Reading.{new_items}
 use Rattle.zre_zmtp.specs.Stream.{Whole, items, fault, cut, greeting_fault}
 use Rattle.zre_zmtp.specs.declared.want.Want.TheVariants.{Any}
 use Rattle.zre_zmtp.specs.declared.item.Item.{Item}
-use Rattle.zre_zmtp.proofs.Feeding.{extends}
+use Rattle.zre_zmtp.proofs.ReadersFollowStreams.{extends}
 use Rattle.zre_commands.specs.show.Lines.{line, lines}
 use Rattle.zre_commands.specs.show.Show.{show, text, is_stopped, is_bad}
 

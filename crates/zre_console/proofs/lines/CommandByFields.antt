@@ -4,7 +4,7 @@ use Rattle.std.specs.List.{join_with_byte}
 use Rattle.std.proofs.lemmas.List.Splits.{join_with_byte-slice_split}
 use Rattle.zre_capture.specs.Parts.{Lacks}
 use Rattle.zre_capture.specs.Reading.{fields_in}
-use Rattle.zre_capture.proofs.Fields.{some_fields, fields-cut, fields-whole}
+use Rattle.zre_capture.proofs.FieldByField.{some_fields, fields-cut, fields-whole}
 use Rattle.zre_console.specs.lines.Orders.{word_alone, with_group, with_text, order_from}
 
 pub order-one : (line : List ℕ) → Lacks 32 line → order_from (fields_in line) ≡ word_alone line

@@ -8,9 +8,9 @@ use Rattle.zre_outside.specs.declared.entry.Command.{Command}
 use Rattle.zre_capture.specs.Parts.{Lacks}
 use Rattle.zre_capture.specs.Reading.{but_last}
 use Rattle.zre_capture.specs.Journal.{lines_in}
-use Rattle.zre_capture.proofs.Parts.{between-cut, between-whole}
-use Rattle.zre_capture.proofs.Lines.{some_lines, lacks-append}
-use Rattle.zre_capture.proofs.Columns.{but_last-more}
+use Rattle.zre_capture.proofs.TextParts.{between-cut, between-whole}
+use Rattle.zre_capture.proofs.LineByLine.{some_lines, lacks-append}
+use Rattle.zre_capture.proofs.FirstBadColumn.{but_last-more}
 use Rattle.zre_console.specs.lines.Orders.{order_of, orders_from, ended_lines, typed}
 use Rattle.zre_console.specs.lines.Typing.{last_of, unfinished, finished}
 

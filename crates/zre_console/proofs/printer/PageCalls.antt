@@ -2,7 +2,7 @@
 use Rattle.std.proofs.Common.{◌≡◌, ℕ, ◌∙◌, Option, Some, None, refl, sym, ap, subst, arith, ⊎_elim}
 use Rattle.std.specs.Prelude.{IsSome}
 use mathlib.Core.Logic.{inl, inr}
-use Rattle.zre_outside.proofs.Rising.{rose_since, rose_still}
+use Rattle.zre_outside.proofs.CountsThatRose.{rose_since, rose_still}
 use Rattle.zre_outside.specs.declared.sink.NextFault.{NextFault}
 use Rattle.zre_console.specs.declared.printer.page.Page.{Page}
 use Rattle.zre_console.specs.printer.Pages.{Tries}

@@ -11,7 +11,7 @@ use Rattle.zre_capture.specs.declared.fault.BadCapture.{BadCapture}
 use Rattle.zre_capture.specs.declared.format.Format.{Format}
 use Rattle.zre_capture.specs.declared.format.Format.TheVariants.{Second}
 use Rattle.zre_capture.specs.declared.line_start.LineStart.{LineStart}
-use Rattle.zre_capture.proofs.Lines.{some_lines}
+use Rattle.zre_capture.proofs.LineByLine.{some_lines}
 use Rattle.zre_records.specs.audit.Cut.{mark}
 
 -- ---- lines after a line feed

@@ -8,9 +8,9 @@ use Rattle.zre_capture.specs.Journal.{journal, settings, settings_in, lines_in, 
 use Rattle.zre_capture.specs.Reading.{settings_of}
 use Rattle.zre_capture.specs.declared.format.Format.TheVariants.{Second}
 use Rattle.zre_values.specs.declared.settings.Settings.{Settings}
-use Rattle.zre_capture.proofs.Growing.{journal_grows, settings_stay}
-use Rattle.zre_capture.proofs.Heads.{settings_of-some}
-use Rattle.zre_capture.proofs.Lines.{entries-bad}
+use Rattle.zre_capture.proofs.JournalGrows.{journal_grows, settings_stay}
+use Rattle.zre_capture.proofs.HeadSettings.{settings_of-some}
+use Rattle.zre_capture.proofs.LineByLine.{entries-bad}
 use Rattle.zre_journal.specs.Events.{events}
 use Rattle.zre_journal.proofs.JoinedEntries.{continues}
 use Rattle.zre_node.specs.declared.node.Node.{Node}

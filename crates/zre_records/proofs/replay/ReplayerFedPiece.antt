@@ -3,7 +3,7 @@ use Rattle.std.proofs.Common.{◌≡◌, ℕ, List, [], ◌++◌, ap, ◌∙◌}
 use Rattle.std.proofs.lemmas.List.Concat.{flat_map-append}
 use Rattle.zre_capture.specs.Journal.{journal}
 use Rattle.zre_capture.specs.declared.format.Format.TheVariants.{First}
-use Rattle.zre_capture.proofs.Growing.{journal_grows}
+use Rattle.zre_capture.proofs.JournalGrows.{journal_grows}
 use Rattle.zre_values.specs.declared.settings.Settings.{Settings as Config}
 use Rattle.zre_journal.specs.Events.{events}
 use Rattle.zre_journal.proofs.JoinedEntries.{continues}

@@ -5,7 +5,7 @@ use Rattle.zre_outside.proofs.GatheredText.{front_none, front_longer, through_th
 use Rattle.zre_net.specs.declared.moves.Move.{Move}
 use Rattle.zre_net.specs.Comes.{history}
 use Rattle.zre_net.specs.Said.{said, told_by}
-use Rattle.zre_net.proofs.Handing.{said_on, said_front}
+use Rattle.zre_net.proofs.HandedOutEvents.{said_on, said_front}
 use Rattle.zre_peer.specs.declared.event.Event.{Event}
 use Rattle.zre_records.specs.simulate.Simulate.{told_lines}
 use Rattle.zre_records.proofs.simulate.GatheredLines.{lines-both}

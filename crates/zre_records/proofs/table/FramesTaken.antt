@@ -4,7 +4,7 @@ use Rattle.std.proofs.Math.Seq.{take-suc}
 use Rattle.std.proofs.lemmas.List.Concat.{flat_map-append}
 use Rattle.std.proofs.lemmas.List.Elements.{filter_map-append}
 use Rattle.zre_peer.specs.declared.event.Event.{Event}
-use Rattle.zre_shared.proofs.Joining.{taken}
+use Rattle.zre_shared.proofs.FramesOneByOne.{taken}
 use Rattle.zre_shared.specs.Replicas.{HeldWrites, with_frame}
 use Rattle.zre_shared.specs.Tables.{table}
 use Rattle.zre_shared.specs.Writes.{write_of}

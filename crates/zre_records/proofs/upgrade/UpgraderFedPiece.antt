@@ -7,7 +7,7 @@ use Rattle.zre_capture.specs.Lines.{lines}
 use Rattle.zre_capture.specs.declared.format.Format.TheVariants.{First, Second}
 use Rattle.zre_values.specs.declared.settings.Settings.{Settings}
 use Rattle.zre_capture.proofs.JoinedEntries.{lines-append}
-use Rattle.zre_capture.proofs.Growing.{journal_grows}
+use Rattle.zre_capture.proofs.JournalGrows.{journal_grows}
 use Rattle.zre_commands.specs.pump.Meaning.{Grows}
 use Rattle.zre_records.specs.upgrade.Upgrade.{text, upgrade}
 use Rattle.zre_records.specs.upgrade.Written.{Wrote}

@@ -1,5 +1,5 @@
 use Rattle.std.proofs.Common.{sym, ◌∙◌, arith}
-use Rattle.zre_values.proofs.Numbers.{first_cut}
+use Rattle.zre_values.proofs.DecimalNumbers.{first_cut}
 use Rattle.zre_capture.proofs.direct.first_number.Goals as goal
 
 pub returns-then-first-eq48 : goal.returns-then-first-eq48

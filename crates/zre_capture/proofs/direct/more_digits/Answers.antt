@@ -1,5 +1,5 @@
 use Rattle.std.proofs.Common.{◌≡◌, ◌+◌, ◌-◌, ◌*◌, get_or, sym, arith}
-use Rattle.zre_values.proofs.Numbers.{one_more}
+use Rattle.zre_values.proofs.DecimalNumbers.{one_more}
 use Rattle.zre_capture.proofs.OnePass.{digit-fits}
 use Rattle.zre_capture.proofs.direct.more_digits.Goals as goal
 

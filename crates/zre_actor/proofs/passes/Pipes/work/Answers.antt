@@ -3,7 +3,7 @@ use Rattle.std.specs.Prelude.{option_map, Err}
 use Rattle.std.proofs.KnownBytes.{Keeps-refl, Keeps-trans}
 use Rattle.zre_outside.specs.declared.turn.Turn.{Turn}
 use Rattle.zre_outside.specs.Worlds.{IsTurn, is_look, after_turn}
-use Rattle.zre_outside.proofs.Rising.{rose_since}
+use Rattle.zre_outside.proofs.CountsThatRose.{rose_since}
 use Rattle.zre_actor.specs.declared.ending.Ending.TheVariants as ending
 use Rattle.zre_outside.specs.Refusals.{refused_after}
 use Rattle.zre_actor.specs.Work.{Broke, Went, scene, world_ending, is_world_fault, is_record_fault}

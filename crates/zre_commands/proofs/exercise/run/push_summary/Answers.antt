@@ -5,7 +5,7 @@ use Rattle.zre_commands.specs.exercise.Counted.{Counted}
 use Rattle.zre_commands.specs.exercise.Settings.{settings}
 use Rattle.zre_commands.specs.exercise.Summary.{summary}
 use Rattle.zre_commands.specs.declared.exercise.counts.Counts.{Counts}
-use Rattle.zre_values.proofs.Answered.{on_ok}
+use Rattle.zre_values.proofs.AnswersThatAreOk.{on_ok}
 use Rattle.zre_commands.proofs.exercise.NodeOnJournal.{starts_with, counted_all}
 use Rattle.zre_commands.proofs.exercise.run.push_summary.Goals as goal
 

@@ -2,7 +2,7 @@ use Rattle.std.proofs.Common.{[], take, refl, sym, ap, ◌∙◌, arith}
 use Rattle.std.proofs.lemmas.List.{length-take, length-take-le}
 use Rattle.zre_outside.proofs.GatheredText.{front_longer}
 use Rattle.zre_outside.proofs.RefusedReads.{none_then, last_then}
-use Rattle.zre_outside.proofs.Rising.{rose_since}
+use Rattle.zre_outside.proofs.CountsThatRose.{rose_since}
 use Rattle.zre_commands.specs.declared.pump.pumping.Onward.TheVariants as nexts
 use Rattle.zre_commands.proofs.pump.EndIsNotReadFault.{failing, goes_on_unfailed, finishes_unfailed, no_memory, too_long}
 use Rattle.zre_commands.proofs.pump.PumpProgress.{MovesOn-nil, starts, goes_on, refused, finishes_on, fails_on}

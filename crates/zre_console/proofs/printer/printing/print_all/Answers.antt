@@ -2,7 +2,7 @@ use Rattle.std.proofs.Common.{◌∙◌, [], sym, ap, refl, subst, arith, append
 use Rattle.std.proofs.KnownBytes.{Appends-nil}
 use Rattle.std.proofs.Common.{⊎_elim}
 use Rattle.zre_actor.specs.Passes.{taken_by, last_of}
-use Rattle.zre_outside.proofs.Rising.{rose_since, rose_still}
+use Rattle.zre_outside.proofs.CountsThatRose.{rose_since, rose_still}
 use Rattle.zre_console.specs.printer.Printing.{IsLast}
 use Rattle.zre_console.proofs.printer.PageCalls.{none_before}
 use Rattle.zre_console.proofs.printer.PrintedLines.{has_printed}

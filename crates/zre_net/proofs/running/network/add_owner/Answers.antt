@@ -1,6 +1,6 @@
 use Rattle.std.proofs.Common.{◌∙◌, sym, ap}
 use Rattle.std.specs.List.{list_any}
-use Rattle.zre_values.proofs.Answered.{on_ok}
+use Rattle.zre_values.proofs.AnswersThatAreOk.{on_ok}
 use Rattle.zre_net.specs.Rows.{is_owner}
 use Rattle.zre_net.proofs.NodesStartAndGo.{owns_already, owns_more}
 use Rattle.zre_net.proofs.running.network.add_owner.Goals as goal

@@ -1,5 +1,5 @@
 use Rattle.std.proofs.Common.{arith}
-use Rattle.zre_values.proofs.Answered.{on_ok}
+use Rattle.zre_values.proofs.AnswersThatAreOk.{on_ok}
 use Rattle.zre_net.proofs.LooksAtLinks.{look_seen}
 use Rattle.zre_net.proofs.running.sender.look_at.Goals as goal
 

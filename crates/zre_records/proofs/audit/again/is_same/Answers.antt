@@ -1,6 +1,6 @@
 use Rattle.std.proofs.Common.{ℕ, List, nat_eq, sym, ap, ◌∙◌}
 use Rattle.zre_audit.specs.Prefixes.{begins}
-use Rattle.zre_audit.proofs.Ordered.{begins-is}
+use Rattle.zre_audit.proofs.OrderedPrefixes.{begins-is}
 use Rattle.zre_records.proofs.audit.SameNodeInPieces.{seen_same}
 use Rattle.zre_records.proofs.audit.again.is_same.Goals as goal
 

@@ -1,5 +1,5 @@
 use Rattle.std.proofs.Common.{arith, refl}
-use Rattle.zre_values.proofs.Answered.{on_ok}
+use Rattle.zre_values.proofs.AnswersThatAreOk.{on_ok}
 use Rattle.zre_records.proofs.audit.SameNodeInPieces.{seen_more}
 use Rattle.zre_records.proofs.audit.again.see.Goals as goal
 

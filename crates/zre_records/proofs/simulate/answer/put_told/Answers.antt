@@ -1,5 +1,5 @@
 use Rattle.std.proofs.Common.{arith, rules}
-use Rattle.zre_outside.proofs.Errors.{on_err}
+use Rattle.zre_outside.proofs.AnswersThatAreErrors.{on_err}
 use Rattle.zre_records.proofs.simulate.GatheredLines.{one_came, front_came, front_with}
 use Rattle.zre_records.proofs.simulate.answer.put_told.Goals as goal
 

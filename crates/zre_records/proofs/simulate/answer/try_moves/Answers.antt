@@ -3,8 +3,8 @@ use Rattle.std.specs.Prelude.{IfSome}
 use Rattle.std.proofs.lemmas.Bool.{OnTrue_at}
 use Rattle.zre_peer.specs.declared.event.Event.{Event}
 use Rattle.zre_net.specs.Said.{said}
-use Rattle.zre_net.proofs.Handing.{said_on}
-use Rattle.zre_net.proofs.Runs.{goes_first, none_came, next_stops, next_comes, all_came}
+use Rattle.zre_net.proofs.HandedOutEvents.{said_on}
+use Rattle.zre_net.proofs.MovesInTurn.{goes_first, none_came, next_stops, next_comes, all_came}
 use Rattle.zre_records.specs.simulate.Simulate.{told_lines}
 use Rattle.zre_records.proofs.simulate.answer.try_moves.Goals as goal
 

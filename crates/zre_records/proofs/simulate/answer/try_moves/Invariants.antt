@@ -2,7 +2,7 @@ use Rattle.std.proofs.Common.{◌≡◌, length}
 use Rattle.std.specs.Prelude.{IfSome}
 use Rattle.zre_net.specs.Running.{Goes}
 use Rattle.zre_net.specs.Said.{said}
-use Rattle.zre_net.proofs.Runs.{Partly}
+use Rattle.zre_net.proofs.MovesInTurn.{Partly}
 use Rattle.zre_records.specs.simulate.Simulate.{told_lines}
 use Rattle.zre_records.proofs.simulate.answer.try_moves.Given as goal
 

@@ -1,8 +1,8 @@
 use Rattle.std.proofs.Common.{◌∙◌, arith, rules}
 use Rattle.std.proofs.lemmas.Bool.{OnTrue_at}
-use Rattle.zre_outside.proofs.Errors.{on_err}
+use Rattle.zre_outside.proofs.AnswersThatAreErrors.{on_err}
 use Rattle.zre_outside.proofs.GatheredText.{through_none}
-use Rattle.zre_net.proofs.Runs.{none_came, with_next, one_came, all_came}
+use Rattle.zre_net.proofs.MovesInTurn.{none_came, with_next, one_came, all_came}
 use Rattle.zre_records.proofs.simulate.LinesOfMoves.{came_on, front_of, front_on}
 use Rattle.zre_records.proofs.simulate.answer.write_moves.Goals as goal
 

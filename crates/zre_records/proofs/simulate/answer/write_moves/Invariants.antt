@@ -1,6 +1,6 @@
 use Rattle.std.proofs.Common.{◌≤◌, length}
 use Rattle.zre_net.specs.Running.{HasRun}
-use Rattle.zre_net.proofs.Runs.{Partly}
+use Rattle.zre_net.proofs.MovesInTurn.{Partly}
 use Rattle.zre_records.proofs.simulate.LinesOfMoves.{CameOf}
 use Rattle.zre_records.proofs.simulate.answer.write_moves.Given as goal
 

@@ -2,7 +2,7 @@ use Rattle.std.proofs.Common.{◌≡◌, List, ◌++◌, not, ◌&&◌, flat_map
 use Rattle.std.specs.List.{list_any}
 use Rattle.std.specs.Option.{option_map_or}
 use Rattle.zre_peer.specs.declared.event.Event.{Event}
-use Rattle.zre_values.proofs.Answered.{on_ok}
+use Rattle.zre_values.proofs.AnswersThatAreOk.{on_ok}
 use Rattle.zre_records.specs.table.Kept.{Keeps}
 use Rattle.zre_records.specs.table.Writes.{frames, frames_told, frames_asked, is_refusal}
 use Rattle.zre_records.proofs.table.WritesOfEntry.{gathered_on}

@@ -1,5 +1,5 @@
 use Rattle.std.proofs.Common.{ap, ◌∙◌, arith}
-use Rattle.zre_outside.proofs.Errors.{on_err}
+use Rattle.zre_outside.proofs.AnswersThatAreErrors.{on_err}
 use Rattle.zre_shared.specs.Replicas.{HeldWrites}
 use Rattle.zre_shared.proofs.LinesWritten.{none_came, one_came, front_came}
 use Rattle.zre_shared.proofs.replica.Replica.write_lines.Goals as goal

@@ -1,6 +1,6 @@
 use Rattle.std.proofs.Common.{List, ◌+◌, ◌++◌, refl, ap, ◌∙◌}
 use Rattle.zre_peer.specs.declared.event.Event.{Event}
-use Rattle.zre_values.proofs.Answered.{on_ok}
+use Rattle.zre_values.proofs.AnswersThatAreOk.{on_ok}
 use Rattle.zre_commands.specs.exercise.Counts.{tally, with_entry}
 use Rattle.zre_commands.proofs.exercise.run.CountingNode.count.Goals as goal
 

@@ -2,7 +2,7 @@ use Rattle.std.proofs.Common.{length, sym, subst}
 use Rattle.zre_journal.specs.Events.{events}
 use Rattle.zre_node.specs.declared.node.Node.{Node}
 use Rattle.zre_node.specs.Journal.{IsStep}
-use Rattle.zre_values.proofs.Answered.{on_ok}
+use Rattle.zre_values.proofs.AnswersThatAreOk.{on_ok}
 use Rattle.zre_commands.proofs.exercise.NodeOnJournal.{steps_on}
 use Rattle.zre_commands.proofs.exercise.run.CountingNode.take.Goals as goal
 

@@ -1,5 +1,5 @@
 use Rattle.std.proofs.Common.{[]}
-use Rattle.zre_outside.proofs.Errors.{on_err}
+use Rattle.zre_outside.proofs.AnswersThatAreErrors.{on_err}
 use Rattle.zre_outside.proofs.GatheredText.{through_end}
 use Rattle.zre_commands.proofs.pump.pumping.PumpText.write_ending.Goals as goal
 

@@ -1,7 +1,7 @@
 use Rattle.std.proofs.Common.{sym, ◌∙◌}
 use Rattle.zre_console.proofs.printer.PageShows.{none_of, missed, line_came, line_refused}
 use Rattle.zre_console.proofs.printer.page.Page.print.Goals as goal
-use Rattle.zre_capture.proofs.Lines.{none_is}
+use Rattle.zre_capture.proofs.LineByLine.{none_is}
 
 pub returns-then-is_some-clause-shows : goal.returns-then-is_some-clause-shows
 returns-then-is_some-clause-shows g c = λ w es h. missed c.args.self.now w _ es h c.args.event.now (none_of c.args.self.now.fault (sym c.is_some.ensures ∙ c.if-is_some.true))

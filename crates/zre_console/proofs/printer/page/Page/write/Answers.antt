@@ -2,7 +2,7 @@ use Rattle.std.proofs.Common.{sym, ◌∙◌}
 use Rattle.zre_outside.proofs.GatheredText.{through_all}
 use Rattle.zre_console.proofs.printer.PageShows.{all_written, front_written}
 use Rattle.zre_console.proofs.printer.page.Page.write.Goals as goal
-use Rattle.zre_capture.proofs.Lines.{none_is}
+use Rattle.zre_capture.proofs.LineByLine.{none_is}
 
 pub returns-in-Err-clause-shows : goal.returns-in-Err-clause-shows
 returns-in-Err-clause-shows g c = λ w es h.

@@ -1,7 +1,7 @@
 use Rattle.std.proofs.Common.{◌≡◌, ◌+◌, ◌≤◌, take, subst, arith}
 use Rattle.std.proofs.lemmas.List.{length-take, length-take-le}
 use Rattle.zre_outside.specs.Causes.{Rose}
-use Rattle.zre_outside.proofs.Rising.{rose_since}
+use Rattle.zre_outside.proofs.CountsThatRose.{rose_since}
 use Rattle.zre_outside.proofs.RefusedReads.{none_then}
 use Rattle.zre_console.specs.reader.Turning.{Finishes}
 use Rattle.zre_console.proofs.reader.RefusedReads.{ends_then}

@@ -1,6 +1,6 @@
 use Rattle.std.proofs.Common.{◌++◌, ◌∙◌, ap, refl}
 use Rattle.std.specs.List.{filter_map}
-use Rattle.zre_values.proofs.Answered.{on_ok}
+use Rattle.zre_values.proofs.AnswersThatAreOk.{on_ok}
 use Rattle.zre_net.specs.Rows.{sent_in, way_in}
 use Rattle.zre_net.proofs.ListsCountedFromOne.{at_place}
 use Rattle.zre_net.proofs.NodesAfterEntry.{nodes_more}

@@ -1,5 +1,5 @@
 use Rattle.std.proofs.Common.{◌∙◌, ap, map, ◌++◌, ◌∷◌, []}
-use Rattle.zre_values.proofs.Answered.{on_ok}
+use Rattle.zre_values.proofs.AnswersThatAreOk.{on_ok}
 use Rattle.zre_net.specs.Texts.{text_at}
 use Rattle.zre_net.proofs.TextsStay.{same_texts, more_texts, on_error}
 use Rattle.zre_net.proofs.running.texts.Texts.push.Goals as goal

@@ -1,8 +1,8 @@
 use Rattle.std.proofs.Common.{◌++◌, ◌∙◌, ap, is_some, subst}
 use Rattle.zre_net.specs.Answer.{bad_in}
-use Rattle.zre_net.proofs.Sent.{if_ok}
+use Rattle.zre_net.proofs.NodeAndLinksAfterEntry.{if_ok}
 use Rattle.zre_outside.specs.Told.{AppendsFront, WritesThrough}
-use Rattle.zre_values.proofs.Answered.{on_ok}
+use Rattle.zre_values.proofs.AnswersThatAreOk.{on_ok}
 use Rattle.zre_records.specs.simulate.Simulate.{answer}
 use Rattle.zre_records.proofs.simulate.LongTextIsRefused.{as_kept, as_answered, on_err_too}
 use Rattle.zre_records.proofs.simulate.simulator.SimulatorMachine.finish.Goals as goal

@@ -1,7 +1,7 @@
 use Rattle.std.proofs.Common.{sym, ◌∙◌}
 use Rattle.zre_capture.specs.Journal.{bad_at_end}
 use Rattle.zre_capture.specs.declared.format.Format.TheVariants.{Second}
-use Rattle.zre_outside.proofs.Errors.{on_err}
+use Rattle.zre_outside.proofs.AnswersThatAreErrors.{on_err}
 use Rattle.zre_outside.proofs.GatheredText.{gathers}
 use Rattle.zre_records.specs.table.Table.{text}
 use Rattle.zre_records.proofs.CommandEnding.{bad_end, good_front, good_through}

@@ -1,5 +1,5 @@
 use Rattle.std.proofs.Common.{List, ℕ, ◌++◌, sym, ap, ◌∙◌}
-use Rattle.zre_values.proofs.Answered.{on_ok}
+use Rattle.zre_values.proofs.AnswersThatAreOk.{on_ok}
 use Rattle.zre_records.proofs.upgrade.UpgraderFedPiece.{text_nothing}
 use Rattle.zre_records.proofs.upgrade.upgrader.UpgraderMachine.begin.Goals as goal
 
