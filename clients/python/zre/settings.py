@@ -45,7 +45,7 @@ def find_program() -> str:
             raise NoProgram(f"ZRE is {given}, and that is no program")
         return found
     top = Path(__file__).resolve().parents[3]
-    for place in (top / "release" / "zre", top / "crates" / "zre_cli" / "out" / "zre_cli"):
+    for place in (top / "release" / "zre-x86_64-linux", top / "crates" / "zre_cli" / "out" / "zre_cli"):
         if os.access(place, os.X_OK) and place.is_file():
             return str(place)
     found = which("zre")
