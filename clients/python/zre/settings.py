@@ -34,7 +34,7 @@ def identity(peer: Peer) -> UUID:
 
 
 def find_program() -> str:
-    """The program: $ZRE, else that of the checkout in which this package lies, else `zre` on the path.
+    """The program: $ZRE, else what the checkout of this package has built, else its release, else `zre` on the path.
 
     Raises NoProgram where none of them is there.
     """
@@ -45,7 +45,7 @@ def find_program() -> str:
             raise NoProgram(f"ZRE is {given}, and that is no program")
         return found
     top = Path(__file__).resolve().parents[3]
-    for place in (top / "release" / "zre-x86_64-linux", top / "crates" / "zre_cli" / "out" / "zre_cli"):
+    for place in (top / "crates" / "zre_cli" / "out" / "zre_cli", top / "release" / "zre-x86_64-linux"):
         if os.access(place, os.X_OK) and place.is_file():
             return str(place)
     found = which("zre")
