@@ -43,7 +43,7 @@ pub mod EventsFollowMessages
 pub mod PlacesInLedgers
 pub mod HeardUnchanged
 pub mod WithinLimits
-mod Rows
+mod ComputedJournals
 pub mod SaidWithinLimit
 pub mod SaidOnConnections
 pub mod SentIsReadable
@@ -69,4 +69,4 @@ pub mod UntoldEvents
 pub mod ViewOctets
 pub mod PlaceByPlace
 pub mod NearMessages
-mod Worked
+mod WorkedLaws
