@@ -16,7 +16,8 @@ use Rattle.zre_app.specs.declared.plain_words.Plain.TheVariants.{Follow, Show, R
 use Rattle.zre_app.specs.Complete.{WellOrShort, NoneRose, CompletesWork, Completes}
 use Rattle.zre_app.specs.Does.{DoesWork, work_of, Does, Did}
 use Rattle.zre_app.specs.Does.Work.{Reads}
-use Rattle.zre_app.specs.Given.{Streams, streams_of, Handed, Views, seen_of}
+use Rattle.zre_app.specs.Streams.{Streams, streams_of}
+use Rattle.zre_chat.specs.Views.{Handed, Views, seen_of}
 use Rattle.zre_app.specs.Usage.{WritesText}
 
 -- ---- a command that reads

@@ -9,7 +9,7 @@ use Rattle.zre_app.specs.declared.command.Command.TheVariants as commands
 use Rattle.zre_app.specs.declared.plain_words.Plain.{Plain}
 use Rattle.zre_app.specs.ChatWords.{chat_of}
 use Rattle.zre_app.specs.Does.{DidPlain, Did}
-use Rattle.zre_app.specs.Given.{Views, Handed, handed, seen_of}
+use Rattle.zre_chat.specs.Views.{Views, Handed, handed, seen_of}
 use Rattle.zre_app.specs.PlainWords.{plain_of}
 use Rattle.zre_app.specs.Usage.{UsageOutcome}
 use Rattle.zre_app.specs.Words.{command_of, is_chat}

@@ -13,7 +13,8 @@ use Rattle.zre_app.specs.declared.command.Command.TheVariants.{Plain, Chat}
 use Rattle.zre_app.specs.declared.plain_words.Plain.{Plain as PlainCommand}
 use Rattle.zre_app.specs.Does.{Work, DoesWork, work_of, DoesPlain, Does, DidPlain, Did}
 use Rattle.zre_app.specs.Does.Work.{Reads, Writes}
-use Rattle.zre_app.specs.Given.{Streams, StreamViews, streams, streams_of, Handed, Views, seen_of}
+use Rattle.zre_app.specs.Streams.{Streams, streams, streams_of}
+use Rattle.zre_chat.specs.Views.{StreamViews, Handed, Views, seen_of}
 use Rattle.zre_app.specs.Usage.{usage_line}
 
 -- it has taken no octets and written nothing

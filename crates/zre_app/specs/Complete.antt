@@ -17,7 +17,8 @@ use Rattle.zre_app.specs.declared.command.Command.{Command}
 use Rattle.zre_app.specs.declared.command.Command.TheVariants.{Plain, Chat}
 use Rattle.zre_app.specs.Does.{Work, work_of}
 use Rattle.zre_app.specs.Does.Work.{Reads, Writes}
-use Rattle.zre_app.specs.Given.{Streams, streams_of, Views, Handed, seen_of}
+use Rattle.zre_app.specs.Streams.{Streams, streams_of}
+use Rattle.zre_chat.specs.Views.{Views, Handed, seen_of}
 
 -- the status says that all went well, and it did; or memory ran out
 abbrev pub WellOrShort : Status → (all : Type 0) → Type 0

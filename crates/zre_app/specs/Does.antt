@@ -25,7 +25,8 @@ use Rattle.zre_app.specs.declared.command.Command.TheVariants as commands
 use Rattle.zre_app.specs.declared.plain_words.Plain.{Plain}
 use Rattle.zre_app.specs.declared.plain_words.Plain.TheVariants.{Follow, Show, Replay, ReplayTold, Upgrade, Table}
 use Rattle.zre_app.specs.declared.plain_words.Plain.TheVariants.{Audit, Simulate, Exercise}
-use Rattle.zre_app.specs.Given.{Streams, StreamViews, streams, streams_of, Handed, Views, seen_of}
+use Rattle.zre_app.specs.Streams.{Streams, streams, streams_of}
+use Rattle.zre_chat.specs.Views.{StreamViews, Handed, Views, seen_of}
 use Rattle.zre_app.specs.Usage.{UsageOutcome, WritesText}
 
 -- what is to be done without a network

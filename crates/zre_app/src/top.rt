@@ -3,9 +3,9 @@
 
 ghost use Rattle.zre_app.specs.Complete.{CompletesAll};
 ghost use Rattle.zre_app.specs.Does.{Did, KeepsItsLedgers};
-ghost use Rattle.zre_app.specs.Given.{handed, stream_views, views};
 ghost use Rattle.std.specs.Prelude.{◌≡◌, true};
 ghost use Rattle.zre_console.specs.Statuses.{IsFirst, IsReadSo};
+ghost use Rattle.zre_chat.specs.Views.{handed, stream_views, views};
 ghost use Rattle.zre_app.specs.Words.{command_of, is_chat};
 
 use crate::chat_words::chat_of;

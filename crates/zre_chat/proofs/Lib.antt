@@ -1,2 +1,2 @@
 pub mod ChatOfParts
-pub mod Talked
+pub mod ChatOfThreads

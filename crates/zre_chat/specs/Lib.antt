@@ -1,1 +1,3 @@
 pub mod Chat
+pub mod Outcome
+pub mod Views

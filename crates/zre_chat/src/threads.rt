@@ -1,4 +1,4 @@
-//! The two threads of a chat.
+//! The threads of a chat: the node's, the reader's and the caller's own.
 
 ghost use Rattle.std.specs.Prelude.{◌≡◌, ◌≢◌, ◌≤◌, ℕ, List, [], Option, true, false};
 ghost use Rattle.zre_outside.specs.declared.start.Start.{Start as StartValue};
@@ -24,15 +24,15 @@ use zre_console::table::Table;
 use zre_console::talk::Talk;
 use zre_outside::{Recorder, Sink, Source, Spawner, World};
 
-/// What the threads of a chat are given, and its input.
+/// What the threads of a chat start with: the pipes with their passes, and the input.
 #[derive(Drop)]
-pub(crate) struct ChatTable<I> {
+pub(crate) struct ChatThreads<I> {
     pub base: Table,
     pub input: I,
 }
 
-impl<I: Source + Send + Drop + 'static> ChatTable<I> {
-    /// Starts the node's thread and the reader's, prints, and waits for both.
+impl<I: Source + Send + Drop + 'static> ChatThreads<I> {
+    /// Starts the node's thread and the reader's, prints the node's events, and waits for both threads.
     pub(crate) fn converse<W, O, R, P, T>(
         self,
         rt: T,
@@ -47,11 +47,11 @@ impl<I: Source + Send + Drop + 'static> ChatTable<I> {
         R: Recorder + Send + Drop + 'static,
         P: Spawner,
         T: Wait + Threads + Copy,
-        // The pipes are laid, and the capture is begun where one is kept.
-        requires laid { IsLaid 0 self.base }
+        // The pipes are new, and the capture is begun if one is recorded.
+        requires unused { IsLaid 0 self.base }
         requires apart { number self.base.others.last.pass ≢ number self.base.others.printer.asker }
         requires begun { work.keep ≡ true → R.begun work.rec ≡ true }
-        // What was read, given, done, written and kept, and the status.
+        // What was read, given, done, written and recorded, and the status.
         ensures chat { (g : ConfigValue) (start : StartValue) (name : Option (List ℕ)) (s : Seen)
             → StandsFor g [] self.base.node_args.node →
             Prepared g start name work.keep s (seen (I.left self.input) (I.taken self.input) (I.faults self.input)
@@ -67,12 +67,12 @@ impl<I: Source + Send + Drop + 'static> ChatTable<I> {
             (R.refused result.rec ≡ R.refused work.rec) (W.refused result.world ≡ W.refused work.world)
             (P.faults spawner.new ≡ P.faults spawner.old) }
         ensures read { IsReadSo result.status (I.refused self.input) (I.refused result.input) }
-        // What isn't used comes back as it was; counts of faults never fall.
-        ensures unkept { work.keep ≡ false → result.rec ≡ work.rec }
-        ensures later { (I.faults self.input ≤ I.faults result.input) × (O.faults out.old ≤ O.faults out.new)
+        // Without a capture the recorder comes back as it was; counts of faults never fall.
+        ensures unrecorded { work.keep ≡ false → result.rec ≡ work.rec }
+        ensures faults { (I.faults self.input ≤ I.faults result.input) × (O.faults out.old ≤ O.faults out.new)
             × (P.faults spawner.old ≤ P.faults spawner.new) }
     {
-        let ChatTable { base, input } = self;
+        let ChatThreads { base, input } = self;
         let Table { node_args, others } = base;
         let limit = work.limit;
         let working = match start_node(spawner, node_args, work) {

@@ -4,7 +4,7 @@ use Rattle.zre_app.proofs.Doing.{plain_did, usage_did, chat_did}
 use Rattle.zre_app.proofs.Ledgers.{keeps_its_ledgers}
 use Rattle.zre_app.proofs.Refusing.{memory_read_so, unread_so, read_so, nothing_first, line_first}
 use Rattle.zre_app.proofs.Unread.{nothing_did}
-use Rattle.zre_app.specs.Given.{handed, stream_views, views}
+use Rattle.zre_chat.specs.Views.{handed, stream_views, views}
 use Rattle.zre_app.specs.Words.{command_of}
 use Rattle.zre_app.proofs.top.run.Goals as goal
 
@@ -49,6 +49,22 @@ returns-in-Ok-None-clause-complete g c =
 
 -- ---- a chat
 
+pub returns-in-Ok-Some-clause-does : goal.returns-in-Ok-Some-clause-does
+returns-in-Ok-Some-clause-does g c =
+    let i = g.I.Source in let w = g.W.World in let o = g.O.Sink in let r = g.R.Recorder in let a = c.args in
+    let v = views (stream_views i.left i.taken i.faults o.written o.faults) w.told w.faults r.kept r.named r.faults g.P.Spawner.faults in
+    let h = handed a.input a.world a.out.now a.rec a.spawner.now in
+    let h' = handed c.run.result.input c.run.result.world c.run.new.out c.run.result.rec c.run.new.spawner in
+    chat_did v a.words.now a.limit c.run.result.status h h' c.in-Ok-Some.asked
+    (sym c.is_chat.ensures ∙ c.if-not-is_chat.false) (sym c.in-Ok-Some.field-0-is ∙ c.in-Ok-Some.ensures.value) c.run.ensures.chat c.run.ensures.unrecorded
+    (c.run.ensures.faults.0, c.run.ensures.faults.1)
+
+pub returns-in-Ok-Some-clause-read : goal.returns-in-Ok-Some-clause-read
+returns-in-Ok-Some-clause-read g c = c.run.ensures.read
+
+pub returns-in-Ok-Some-clause-first : goal.returns-in-Ok-Some-clause-first
+returns-in-Ok-Some-clause-first g c = λ is. c.run.ensures.first
+
 pub returns-in-Ok-Some-clause-ledgers : goal.returns-in-Ok-Some-clause-ledgers
 returns-in-Ok-Some-clause-ledgers g c = keeps_its_ledgers _
 
@@ -59,8 +75,8 @@ returns-in-Ok-Some-clause-complete g c =
     let h = handed a.input a.world a.out.now a.rec a.spawner.now in
     let h' = handed c.run.result.input c.run.result.world c.run.new.out c.run.result.rec c.run.new.spawner in
     completes _ _ _ _ _ (chat_did v a.words.now a.limit c.run.result.status h h' c.in-Ok-Some.asked
-    (sym c.is_chat.ensures ∙ c.if-not-is_chat.false) (sym c.in-Ok-Some.field-0-is ∙ c.in-Ok-Some.ensures.value) c.run.ensures.chat c.run.ensures.unkept
-    (c.run.ensures.later.0, c.run.ensures.later.1)).does
+    (sym c.is_chat.ensures ∙ c.if-not-is_chat.false) (sym c.in-Ok-Some.field-0-is ∙ c.in-Ok-Some.ensures.value) c.run.ensures.chat c.run.ensures.unrecorded
+    (c.run.ensures.faults.0, c.run.ensures.faults.1)).does
 
 -- ---- another command
 

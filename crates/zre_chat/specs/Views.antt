@@ -1,17 +1,9 @@
--- What is handed in to a call, and what is seen of it at one moment.
+-- What is handed in to a chat, and what is seen of it at one moment.
 use Rattle.std.specs.Prelude.{ℕ, List, Option}
 use Rattle.zre_outside.specs.Worlds.{Log}
 use Rattle.zre_console.specs.Lived.{Seen, seen}
 
--- what a source tells that is left and that was taken, what a sink tells that was written, and how often each failed
-pub record Streams : Type 0 where
-  pub left : Option (List ℕ)
-  pub taken : Option (List ℕ)
-  pub read_faults : ℕ
-  pub written : Option (List ℕ)
-  pub write_faults : ℕ
-
--- how they tell it
+-- what is seen of a source and of a sink
 pub record StreamViews (I O : Type 0) : Type 0 where
   pub left : I → Option (List ℕ)
   pub taken : I → Option (List ℕ)
@@ -29,15 +21,6 @@ stream_views left taken reads written writes = record {
   write_faults = writes;
 }
 
-abbrev pub streams : {I O : Type 0} → StreamViews I O → I → O → Streams
-streams v input out = record {
-  left = v.left input;
-  taken = v.taken input;
-  read_faults = v.read_faults input;
-  written = v.written out;
-  write_faults = v.write_faults out;
-}
-
 -- all that is handed in to a chat
 pub record Handed (I W O R P : Type 0) : Type 0 where
   pub input : I
@@ -49,7 +32,7 @@ pub record Handed (I W O R P : Type 0) : Type 0 where
 abbrev pub handed : {I W O R P : Type 0} → I → W → O → R → P → Handed I W O R P
 handed input world out rec spawner = record { input = input; world = world; out = out; rec = rec; spawner = spawner }
 
--- how it tells what is seen of it
+-- what is seen of each
 pub record Views (I W O R P : Type 0) : Type 0 where
   pub streams : StreamViews I O
   pub told : W → Option Log
@@ -76,13 +59,3 @@ seen_of v h =
     seen (v.streams.left h.input) (v.streams.taken h.input) (v.streams.read_faults h.input)
     (v.told h.world) (v.world_faults h.world) (v.streams.written h.out) (v.streams.write_faults h.out)
     (v.kept h.rec) (v.named h.rec) (v.record_faults h.rec) (v.refusals h.spawner)
-
--- of which this is the source and the sink
-abbrev pub streams_of : Seen → Streams
-streams_of s = record {
-  left = s.left;
-  taken = s.taken;
-  read_faults = s.read_faults;
-  written = s.written;
-  write_faults = s.write_faults;
-}

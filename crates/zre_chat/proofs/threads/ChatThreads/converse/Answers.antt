@@ -19,10 +19,10 @@ use Rattle.zre_console.specs.Statuses.{least, of_read, of_print, of_work, of_thr
 use Rattle.zre_console.proofs.SecondCaller.{asker_ended}
 use Rattle.zre_console.proofs.First.{below_self, first_of_all, reads_so, thread_unread}
 use Rattle.zre_console.proofs.LeastStatus.{thread_isnt}
-use Rattle.zre_chat.proofs.Talked.{talked}
+use Rattle.zre_chat.proofs.ChatOfThreads.{talked}
 use Rattle.zre_console.proofs.Unstarted.{head_only}
 use Rattle.zre_chat.proofs.ChatOfParts.{untalked}
-use Rattle.zre_chat.proofs.threads.ChatTable.converse.Goals as goal
+use Rattle.zre_chat.proofs.threads.ChatThreads.converse.Goals as goal
 
 pub returns-in-Err-clause-chat : goal.returns-in-Err-clause-chat
 returns-in-Err-clause-chat g c = λ f start name s stands p. (
@@ -43,7 +43,7 @@ returns-in-Err-clause-chat g c = λ f start name s stands p. (
 
 pub returns-clause-chat : goal.returns-clause-chat
 returns-clause-chat g c = λ f start name s stands p. (
-    let i = g.I.Source in let w = g.W.World in let o = g.O.Sink in let r = g.R.Recorder in let a = c.args in let l = c.requires.laid in let x = a.self.base.others in
+    let i = g.I.Source in let w = g.W.World in let o = g.O.Sink in let r = g.R.Recorder in let a = c.args in let l = c.requires.unused in let x = a.self.base.others in
     let told = c.hold_talk-talk in let done = told.result.done in let printed = told.result.printed in
     let out = c.join-worked.result in let means = c.join-worked.ensures in let began = c.in-Ok.ensures.started in let same = c.settle.ensures.same in
     let u = seen (i.left a.self.input) (i.taken a.self.input) (i.faults a.self.input) (w.told a.work.world) (w.faults a.work.world) (o.written a.out.now) (o.faults a.out.now) (r.kept a.work.rec) (r.named a.work.rec) (r.faults a.work.rec) (g.P.Spawner.faults a.spawner.now) in
@@ -65,17 +65,17 @@ returns-clause-chat g c = λ f start name s stands p. (
 
 pub settle-requires-clause-pipes : goal.settle-requires-clause-pipes
 settle-requires-clause-pipes g c = (
-  subst (λ ps. IsActorOf ps c.join-worked.result.pass) (ap (λ j. arc_value j.0) c.in-Ok.ensures.started ∙ c.requires.laid.node_args.same ∙ ap (λ p. arc_value p) (sym c.hold_talk-talk.ensures.same)) c.join-worked.ensures.0,
+  subst (λ ps. IsActorOf ps c.join-worked.result.pass) (ap (λ j. arc_value j.0) c.in-Ok.ensures.started ∙ c.requires.unused.node_args.same ∙ ap (λ p. arc_value p) (sym c.hold_talk-talk.ensures.same)) c.join-worked.ensures.0,
   c.hold_talk-talk.ensures.pipes.0,
 )
 
 pub settle-requires-clause-callers : goal.settle-requires-clause-callers
 settle-requires-clause-callers g c = let told = c.hold_talk-talk in
-    (subst (λ ps. IsCallerOf ps told.result.done.pass) (c.requires.laid.last.0 ∙ ap (λ p. arc_value p) (sym told.ensures.same)) told.ensures.done.0, told.ensures.pipes.1)
+    (subst (λ ps. IsCallerOf ps told.result.done.pass) (c.requires.unused.last.0 ∙ ap (λ p. arc_value p) (sym told.ensures.same)) told.ensures.done.0, told.ensures.pipes.1)
 
 pub settle-requires-clause-back : goal.settle-requires-clause-back
 settle-requires-clause-back g c =
-    let l = c.requires.laid in let told = c.hold_talk-talk in let done = told.result.done in let printed = told.result.printed in let o = g.O.Sink in let x = c.args.self.base.others in
+    let l = c.requires.unused in let told = c.hold_talk-talk in let done = told.result.done in let printed = told.result.printed in let o = g.O.Sink in let x = c.args.self.base.others in
     let many = two_alone done.pass printed.pass (told.ensures.done.2.puts.same_ended ∙ l.last.2.0)
     (asker_ended x.printer.asker told.result.refused x.printer.taker printed.taker printed.pass printed.fault (o.written c.args.out.now) (o.written told.new.out) told.ensures.printed ∙ l.new_asker.0) in
     omega (arith, many, ap length (c.join-worked.ensures.1 ∙ ap (λ j. unused_by j.3) c.in-Ok.ensures.started), l.node_args.unused)
