@@ -8,11 +8,11 @@ use Rattle.zre_commands.specs.declared.pump.status.Status.TheVariants.{OutOfMemo
 use Rattle.zre_console.specs.Lived.{Seen}
 use Rattle.zre_console.proofs.LeastStatus.{memory_isnt}
 use Rattle.zre_console.proofs.Unstarted.{none_started}
-use Rattle.zre_gate.specs.Clients.{ClientRow}
+use Rattle.zre_gate.specs.Clients.{SeenClient}
 use Rattle.zre_gate.specs.Gate.{IsGate}
 use Rattle.zre_gate.specs.declared.gate.Gate.{Gate}
-use Rattle.zre_gate.proofs.Attended.{not_attended}
-use Rattle.zre_gate.proofs.Unopened.{unopened}
+use Rattle.zre_gate.proofs.DeskClients.{none_given}
+use Rattle.zre_gate.proofs.UnstartedGate.{unopened}
 use Rattle.zre_app.specs.Complete.{IsBelow, CompletesGate}
 use Rattle.zre_app.specs.DoesGate.{DoesGate}
 use Rattle.zre_app.specs.Usage.{usage_line}
@@ -30,12 +30,12 @@ gate_completes (Some g) limit status s t desk = λ before after gate served none
     (λ done. gate.wrote.whole (inl done))
 
 -- a call that found no memory at its start
-pub nothing_gated : {C : Type 0} (look : C → ClientRow) (g : Option Gate) (limit : ℕ) (told : Option (Register C)) (s : Seen) (desk : Type 0) (returned : List C) → returned ≡ [] → DoesGate look g limit OutOfMemory told told s s desk returned
+pub nothing_gated : {C : Type 0} (look : C → SeenClient) (g : Option Gate) (limit : ℕ) (told : Option (Register C)) (s : Seen) (desk : Type 0) (returned : List C) → returned ≡ [] → DoesGate look g limit OutOfMemory told told s s desk returned
 nothing_gated look None limit told s desk returned none = ([], usage_line, refl, Appends-nil s.written)
 nothing_gated look (Some g) limit told s desk returned none = record {
   given = [];
   begun = false;
-  is_told = not_attended g.local told;
+  is_told = none_given g.local told;
   opened = λ is. absurd (memory_isnt is);
   gate = subst (λ xs. IsGate g.config g.start g.capture limit g.clients s s desk [] (map look xs) OutOfMemory) (sym none)
       (unopened g.config g.start g.capture limit g.clients s s desk [] false OutOfMemory (λ isnt. absurd (isnt refl)) refl (none_started s.told)

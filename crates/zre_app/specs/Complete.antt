@@ -10,7 +10,7 @@ use Rattle.zre_commands.specs.declared.pump.status.Status.TheVariants.{Done, Out
 use Rattle.zre_commands.specs.pump.Meaning.{whole_text}
 use Rattle.zre_console.specs.Lived.{Seen}
 use Rattle.zre_chat.specs.Chat.{IsChat}
-use Rattle.zre_gate.specs.Clients.{ClientRow}
+use Rattle.zre_gate.specs.Clients.{SeenClient}
 use Rattle.zre_gate.specs.Gate.{Client, HasServed, IsGate}
 use Rattle.zre_gate.specs.declared.gate.Gate.{Gate}
 use Rattle.zre_app.specs.declared.command.Command.{Command}
@@ -67,7 +67,7 @@ IsBelow limit c = length c.octets < limit
 abbrev pub CompletesGate : Option Gate → (limit : ℕ) → Status → Seen → Seen → (desk : Type 0) → Type 0
 CompletesGate None limit status s t desk = ⊤
 CompletesGate (Some g) limit status s t desk =
-    (before after : List ClientRow)
+    (before after : List SeenClient)
     (gate : IsGate g.config g.start g.capture limit g.clients s t desk before after status)
     (served : HasServed limit gate.lived.handed gate.lived.turns
     (has_stopped (chronicle g.config gate.lived.entries)) s t desk before after status)

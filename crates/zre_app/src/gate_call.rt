@@ -4,7 +4,7 @@ ghost use Rattle.std.specs.Prelude.{◌≡◌, ◌≤◌, [], None, Some, option
 ghost use Rattle.zre_outside.specs.Causes.{Rose};
 ghost use Rattle.zre_console.specs.Statuses.{IsFirst, Yields};
 ghost use Rattle.zre_commands.specs.declared.pump.status.Status.TheVariants.{DeskFault};
-ghost use Rattle.zre_gate.specs.Clients.{row};
+ghost use Rattle.zre_gate.specs.Clients.{seen_client};
 ghost use Rattle.zre_gate.specs.Gate.{seen_beside};
 ghost use Rattle.zre_app.specs.Complete.{CompletesGate};
 ghost use Rattle.zre_app.specs.DoesGate.{DoesGate};
@@ -41,7 +41,7 @@ where
     O: Sink,
     R: Recorder + Send + Drop + 'static,
     P: Spawner,
-    ensures does { DoesGate (row D.Client.left D.Client.taken D.Client.faults D.Client.refused)
+    ensures does { DoesGate (seen_client D.Client.left D.Client.taken D.Client.faults D.Client.refused)
         (gate_of words.now) limit result.status
         (D.told desk) (D.told result.desk)
         (seen_beside (W.told world) (W.faults world) (O.written out.old) (O.faults out.old)
@@ -64,8 +64,8 @@ where
     // Where the words are no gate, what isn't used comes back as it was handed in.
     ensures unused { gate_of words.now ≡ None → (result.desk ≡ desk) × (result.clients.items ≡ [])
         × (result.world ≡ world) × (result.rec ≡ rec) × (P.faults spawner.new ≡ P.faults spawner.old) }
-    ensures unkept { option_and_then (λ g. g.capture) (gate_of words.now) ≡ None → result.rec ≡ rec }
-    ensures later { (O.faults out.old ≤ O.faults out.new) × (P.faults spawner.old ≤ P.faults spawner.new) }
+    ensures unrecorded { option_and_then (λ g. g.capture) (gate_of words.now) ≡ None → result.rec ≡ rec }
+    ensures faults { (O.faults out.old ≤ O.faults out.new) × (P.faults spawner.old ≤ P.faults spawner.new) }
 {
     match gate_of(alloc, words) {
         Ok(Some(asked)) => asked.run(rt, alloc, desk, world, out, rec, spawner, limit),

@@ -4,20 +4,20 @@ use Rattle.zre_actor.specs.declared.passes.Pipes.{Pipes}
 use Rattle.zre_actor.specs.declared.passes.CallerPass.{CallerPass}
 use Rattle.zre_actor.specs.Passes.{IsCallerOf, IsNew, number, ended, put_by}
 use Rattle.zre_console.specs.declared.reader.ending.InputEnd.{InputEnd}
-use Rattle.zre_gate.specs.Clients.{ClientRow, Served, IsServed, put_for}
+use Rattle.zre_gate.specs.Clients.{SeenClient, Served, IsServed, put_for}
 
 -- a client before anything was read of it: under which number its commands are put, and what it tells
 pub record NewClient : Type 0 where
   pub number : ℕ
-  pub before : ClientRow
+  pub before : SeenClient
 
-abbrev pub new_client : ℕ → ClientRow → NewClient
+abbrev pub new_client : ℕ → SeenClient → NewClient
 new_client number before = record { number = number; before = before }
 
 abbrev pub number_of : NewClient → ℕ
 number_of x = x.number
 
-abbrev pub before_of : NewClient → ClientRow
+abbrev pub before_of : NewClient → SeenClient
 before_of x = x.before
 
 -- all clients, the pipes into which their commands are put, and the most octets that are read of each
@@ -33,12 +33,12 @@ new_client_at (x ∷ xs) zero = Some x
 new_client_at (x ∷ xs) (suc place) = new_client_at xs place
 
 -- these numbers, each for the client beside it
-abbrev pub new_clients_of : List ℕ → List ClientRow → List NewClient
+abbrev pub new_clients_of : List ℕ → List SeenClient → List NewClient
 new_clients_of [] rows = []
 new_clients_of (n ∷ ns) [] = []
 new_clients_of (n ∷ ns) (r ∷ rs) = new_client n r ∷ new_clients_of ns rs
 
-abbrev pub client_list_of : Pipes → ℕ → List ℕ → List ClientRow → ClientList
+abbrev pub client_list_of : Pipes → ℕ → List ℕ → List SeenClient → ClientList
 client_list_of pipes limit numbers rows =
     record { pipes = pipes; limit = limit; new_clients = new_clients_of numbers rows }
 
@@ -48,7 +48,7 @@ new_client_of x = new_client x.number x.before
 
 -- a client at a place of a client_list, with a pass under which nothing was put
 pub record IsNewClient (client_list : Option ClientList) (pipes : Pipes) (limit place : ℕ) (pass : CallerPass)
-    (before : ClientRow) : Type 0 where
+    (before : SeenClient) : Type 0 where
   pub there : ClientList
   pub is_client_list : client_list ≡ Some there
   pub same_pipes : pipes ≡ there.pipes
@@ -58,7 +58,7 @@ pub record IsNewClient (client_list : Option ClientList) (pipes : Pipes) (limit 
   pub is_new : IsNew pass
 
 -- the client at a place of a client_list was read, and this pass has what was put for it
-pub record IsAnswer (client_list : Option ClientList) (place : ℕ) (after : ClientRow) (pass : CallerPass)
+pub record IsAnswer (client_list : Option ClientList) (place : ℕ) (after : SeenClient) (pass : CallerPass)
     (end : InputEnd) : Type 0 where
   pub there : ClientList
   pub is_client_list : client_list ≡ Some there

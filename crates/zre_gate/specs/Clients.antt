@@ -14,23 +14,23 @@ use Rattle.zre_commands.specs.declared.pump.status.Status.TheVariants.{Done}
 use Rattle.zre_console.specs.Statuses.{of_read}
 
 -- what a client tells that is left and that was taken, how often it failed, and the reads that it refused
-pub record ClientRow : Type 0 where
+pub record SeenClient : Type 0 where
   pub left : Option (List ℕ)
   pub taken : Option (List ℕ)
   pub faults : ℕ
   pub refused : Option Refusals
 
-abbrev pub row : {C : Type 0} (left taken : C → Option (List ℕ)) (faults : C → ℕ) (refused : C → Option Refusals) → C
-    → ClientRow
-row left taken faults refused c =
+abbrev pub seen_client : {C : Type 0} (left taken : C → Option (List ℕ)) (faults : C → ℕ) (refused : C → Option Refusals)
+    → C → SeenClient
+seen_client left taken faults refused c =
     record { left = left c; taken = taken c; faults = faults c; refused = refused c }
 
 -- a client that was waited for: under which number its commands were put, what it told before and after, what was
 -- taken of it and put, and why no more was
 pub record Served : Type 0 where
   pub number : ℕ
-  pub before : ClientRow
-  pub after : ClientRow
+  pub before : SeenClient
+  pub after : SeenClient
   pub octets : List ℕ
   pub commands : List Command
   pub end : InputEnd
@@ -49,7 +49,7 @@ put_for x = map (placed x.number []) x.commands
 abbrev pub put_for_all : List Served → List Placed
 put_for_all xs = flat_map put_for xs
 
-abbrev pub after_of : Served → ClientRow
+abbrev pub after_of : Served → SeenClient
 after_of x = x.after
 
 -- it ended because the gate was over

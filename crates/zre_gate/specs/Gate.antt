@@ -21,7 +21,7 @@ use Rattle.zre_console.specs.reader.Reading.{IsReadOn}
 use Rattle.zre_commands.specs.declared.pump.status.Status.{Status}
 use Rattle.zre_commands.specs.declared.pump.status.Status.TheVariants.{Done, DeskFault}
 use Rattle.zre_console.specs.Lived.{Seen, seen, HasCause, Lived, Wrote, Captured}
-use Rattle.zre_gate.specs.Clients.{ClientRow}
+use Rattle.zre_gate.specs.Clients.{SeenClient}
 use Rattle.zre_gate.specs.declared.gate.Gate.{Gate}
 use Rattle.zre_gate.specs.Interleaving.{IsInterleaving}
 
@@ -33,15 +33,15 @@ seen_beside told worlds written writes kept named records refusals =
 
 -- a client: what it told before and after, the octets that were taken of it, and its commands that were handed in
 pub record Client : Type 0 where
-  pub before : ClientRow
-  pub after : ClientRow
+  pub before : SeenClient
+  pub after : SeenClient
   pub octets : List ℕ
   pub handed : List Command
 
-abbrev pub before_of : Client → ClientRow
+abbrev pub before_of : Client → SeenClient
 before_of c = c.before
 
-abbrev pub after_of : Client → ClientRow
+abbrev pub after_of : Client → SeenClient
 after_of c = c.after
 
 abbrev pub handed_of : Client → List Command
@@ -97,7 +97,7 @@ pub record Merged (limit : ℕ) (clients : List Client) (handed : List Command) 
 -- there are such clients, so many where all went well, and the status has its cause. The rows are those of the clients
 -- that the desk gave
 pub record HasServed (limit : ℕ) (handed : List Command) (turns : ℕ) (stopped : Bool) (s t : Seen) (desk : Type 0)
-    (before after : List ClientRow) (status : Status) : Type 0 where
+    (before after : List SeenClient) (status : Status) : Type 0 where
   pub clients : List Client
   pub are_before : map before_of clients ≡ before
   pub are_after : map after_of clients ≡ after
@@ -109,7 +109,7 @@ pub record HasServed (limit : ℕ) (handed : List Command) (turns : ℕ) (stoppe
 -- clients; desk says that the desk's count of faults rose. What was taken of a client may be told by nothing that is
 -- seen, so of the clients it says that they are there
 pub record IsGate (g : Config) (start : Start) (name : Option (List ℕ)) (limit many : ℕ) (s t : Seen) (desk : Type 0)
-    (before after : List ClientRow) (status : Status) : Type 0 where
+    (before after : List SeenClient) (status : Status) : Type 0 where
   pub lived : Lived g start limit s t status
   pub wrote : Wrote g lived.entries s t status
   pub captured : Captured g name lived.entries s t status
@@ -120,18 +120,18 @@ pub record IsGate (g : Config) (start : Start) (name : Option (List ℕ)) (limit
       before after status ∥₁
 
 -- a desk was begun at a place, unless the gate ended before, and gave these clients
-abbrev pub attended : {C : Type 0} → Bool → Endpoint → List C → Register C → Register C
-attended begun place given r = record {
+abbrev pub with_clients : {C : Type 0} → Bool → Endpoint → List C → Register C → Register C
+with_clients begun place given r = record {
   begun = if begun then Some place else r.begun;
   given = r.given ++ given;
 }
 
 -- the same of what a gate is asked for, with the clients that the desk gave and what it tells
-pub record HasGated {C : Type 0} (look : C → ClientRow) (plan : Gate) (limit : ℕ) (told told' : Option (Register C))
+pub record HasGated {C : Type 0} (look : C → SeenClient) (plan : Gate) (limit : ℕ) (told told' : Option (Register C))
     (s t : Seen) (desk : Type 0) (returned : List C) (status : Status) : Type 0 where
   pub given : List C
   pub begun : Bool
-  pub is_told : told' ≡ option_map (attended begun plan.local given) told
+  pub is_told : told' ≡ option_map (with_clients begun plan.local given) told
   pub opened : status ≡ Done → begun ≡ true
   pub gate : IsGate plan.config plan.start plan.capture limit plan.clients s t desk (map look given)
       (map look returned) status

@@ -9,7 +9,7 @@ use Rattle.zre_console.specs.declared.reader.ending.InputEnd.TheVariants as end
 use Rattle.zre_console.specs.reader.Putting.{Puts, IsClose}
 use Rattle.zre_commands.specs.declared.pump.status.Status.{Status}
 use Rattle.zre_commands.specs.declared.pump.status.Status.TheVariants.{Done, TooLong, OutOfMemory}
-use Rattle.zre_gate.specs.Clients.{ClientRow, Served, IsServed, put_for_all, after_of, is_over, of_client}
+use Rattle.zre_gate.specs.Clients.{SeenClient, Served, IsServed, put_for_all, after_of, is_over, of_client}
 use Rattle.zre_gate.specs.ClientLists.{ClientList, NewClient, number_of, new_client_of}
 
 -- it ended otherwise than because the gate was over
@@ -26,7 +26,7 @@ pub record Ends (served : List Served) (status : Status) : Type 0 where
       ⊎ ((status ≡ TooLong) × (x : Served) × Contains served x × (x.end ≡ end.TooLong)))
 
 -- these clients were waited for, and a pass absorbed theirs
-pub record Gathers (limit : ℕ) (new_clients : List NewClient) (afters : List ClientRow) (old new : CallerPass)
+pub record Gathers (limit : ℕ) (new_clients : List NewClient) (afters : List SeenClient) (old new : CallerPass)
     (status : Status) (over : Bool) : Type 0 where
   pub served : List Served
   pub are_new_clients : map new_client_of served ≡ new_clients
@@ -39,7 +39,7 @@ pub record Gathers (limit : ℕ) (new_clients : List NewClient) (afters : List C
   pub own_ends : over ≡ false → All IsOwnEnd served
 
 -- and then a quit was put or nothing, and nothing where one ended because the gate was over
-pub record Closes (limit : ℕ) (new_clients : List NewClient) (afters : List ClientRow) (old new : CallerPass)
+pub record Closes (limit : ℕ) (new_clients : List NewClient) (afters : List SeenClient) (old new : CallerPass)
     (status : Status) : Type 0 where
   pub mid : CallerPass
   pub over : Bool
@@ -58,11 +58,11 @@ abbrev pub IsFull : Option ClientList → ℕ → Type 0
 IsFull client_list many = (there : ClientList) → client_list ≡ Some there → length there.new_clients ≡ many
 
 -- all clients of the client_list that is known
-abbrev pub GathersAll : Option ClientList → List ClientRow → (old new : CallerPass) → Status → Bool → Type 0
+abbrev pub GathersAll : Option ClientList → List SeenClient → (old new : CallerPass) → Status → Bool → Type 0
 GathersAll client_list afters old new status over =
     (there : ClientList) → client_list ≡ Some there
     → ∥ Gathers there.limit there.new_clients afters old new status over ∥₁
 
-abbrev pub ClosesAll : Option ClientList → List ClientRow → (old new : CallerPass) → Status → Type 0
+abbrev pub ClosesAll : Option ClientList → List SeenClient → (old new : CallerPass) → Status → Type 0
 ClosesAll client_list afters old new status =
     (there : ClientList) → client_list ≡ Some there → ∥ Closes there.limit there.new_clients afters old new status ∥₁

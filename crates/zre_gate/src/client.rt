@@ -1,7 +1,7 @@
 //! The work of a client's thread.
 
 ghost use Rattle.std.specs.Arc.{arc_value};
-ghost use Rattle.zre_gate.specs.Clients.{row};
+ghost use Rattle.zre_gate.specs.Clients.{seen_client};
 ghost use Rattle.zre_gate.specs.ClientLists.{IsNewClient, IsAnswer};
 
 use crate::gate_name::GateName;
@@ -21,7 +21,7 @@ pub struct Answer<C: Source, B: GateName> {
     pub done: ReaderDone<C>,
     /// Of which gate it is.
     pub of: PhantomData<B>,
-    ghost known: { ∥ IsAnswer B.client_list place (row C.left C.taken C.faults C.refused done.input) done.pass
+    ghost known: { ∥ IsAnswer B.client_list place (seen_client C.left C.taken C.faults C.refused done.input) done.pass
         done.end ∥₁ },
 }
 
@@ -36,7 +36,7 @@ pub struct ClientJob<C: Source, B: GateName> {
     /// Where the answer goes to. A thread's handle can't be waited for by another thread than the one that started it.
     pub line: Sender<Answer<C, B>>,
     ghost known: { ∥ IsNewClient B.client_list (arc_value reading.pipes) reading.limit place reading.pass
-        (row C.left C.taken C.faults C.refused reading.input) ∥₁ },
+        (seen_client C.left C.taken C.faults C.refused reading.input) ∥₁ },
 }
 
 impl<C: Source + Send + Drop + 'static, B: GateName + Send + 'static> Task for ClientJob<C, B> {

@@ -4,7 +4,7 @@ ghost use Rattle.std.specs.Prelude.{◌≡◌, ◌≤◌, [], map, length, Optio
 ghost use Rattle.std.specs.Arc.{arc_value};
 ghost use Rattle.zre_actor.specs.declared.passes.CallerPass.{CallerPass as CallerPassValue};
 ghost use Rattle.zre_actor.specs.Passes.{IsCallerOf};
-ghost use Rattle.zre_gate.specs.Clients.{row};
+ghost use Rattle.zre_gate.specs.Clients.{seen_client};
 ghost use Rattle.zre_gate.specs.Gathering.{IsClientList, IsFull, GathersAll, ClosesAll};
 ghost use Rattle.zre_gate.specs.ClientLists.{ClientList};
 
@@ -39,21 +39,21 @@ pub struct CloserJob<C: Source, B: GateName> {
     ghost of_pipes: { IsCallerOf (arc_value pipes) pass },
     ghost client_list: { ∥ IsClientList B.client_list (arc_value pipes) ∥₁ },
     ghost many: { IsFull B.client_list (length lines.items) },
-    ghost room: { (clients.items ≡ []) × (length lines.items ≤ vec_capacity clients) },
+    ghost capacity: { (clients.items ≡ []) × (length lines.items ≤ vec_capacity clients) },
 }
 
 impl<C: Source + Send + Drop + 'static, B: GateName + Send + 'static> Task for CloserJob<C, B> {
     ghost use Rattle.std.specs.Prelude.{map};
     ghost use Rattle.std.specs.Arc.{arc_value};
     ghost use Rattle.zre_actor.specs.Passes.{IsCallerOf};
-    ghost use Rattle.zre_gate.specs.Clients.{row};
+    ghost use Rattle.zre_gate.specs.Clients.{seen_client};
     ghost use Rattle.zre_gate.specs.Gathering.{ClosesAll};
 
     type Out = Read<Vec<C>>;
 
     ghost means = { λ job out. IsCallerOf (arc_value job.pipes) out.pass
-        × ClosesAll B.client_list (map (row C.left C.taken C.faults C.refused) out.input.items) job.pass out.pass
-        out.status };
+        × ClosesAll B.client_list (map (seen_client C.left C.taken C.faults C.refused) out.input.items) job.pass
+        out.pass out.status };
 }
 
 impl<T: Wait + Copy, C: Source + Send + Drop + 'static, B: GateName + Send + 'static> Job<T>
@@ -84,10 +84,10 @@ where
     requires pipes { IsCallerOf pipes.now gathered.pass }
     ensures pipes { IsCallerOf pipes.now result.pass }
     ensures closes { (client_list : Option ClientList) (first : CallerPassValue)
-        → GathersAll client_list (map (row C.left C.taken C.faults C.refused) gathered.clients.items) first
+        → GathersAll client_list (map (seen_client C.left C.taken C.faults C.refused) gathered.clients.items) first
         gathered.pass gathered.status gathered.over
-        → ClosesAll client_list (map (row C.left C.taken C.faults C.refused) result.input.items) first result.pass
-        result.status }
+        → ClosesAll client_list (map (seen_client C.left C.taken C.faults C.refused) result.input.items) first
+        result.pass result.status }
 {
     let GatheredClients {
         clients,

@@ -1,4 +1,4 @@
-//! The whole call, with its order of starts.
+//! The command `gate`: the order in which the capture, the desk, the network and the threads are started.
 
 ghost use Rattle.std.specs.Prelude.{◌≡◌, ◌≤◌, [], true, None, IfSome, IfOk, IfErr, OnOk};
 ghost use Rattle.std.specs.Str.{is_utf8};
@@ -8,13 +8,13 @@ ghost use Rattle.zre_node.specs.Journal.{StandsFor};
 ghost use Rattle.zre_commands.specs.declared.pump.status.Status.TheVariants.{WriteFault, WorldFault, DeskFault};
 ghost use Rattle.zre_console.specs.Stages.{HasOpened, Unprepared};
 ghost use Rattle.zre_console.specs.Statuses.{IsFirst, Yields};
-ghost use Rattle.zre_gate.specs.Clients.{row};
+ghost use Rattle.zre_gate.specs.Clients.{seen_client};
 ghost use Rattle.zre_gate.specs.Gate.{HasGated, seen_beside};
-ghost use Rattle.zre_gate.specs.Stages.{Attends, AttendsAll};
-ghost use Rattle.zre_gate.specs.Tables.{IsLaid};
+ghost use Rattle.zre_gate.specs.Stages.{HasGiven, HasGivenAll};
+ghost use Rattle.zre_gate.specs.Tables.{IsUnused};
 
-use crate::arrivals::attend;
-use crate::table::GateTable;
+use crate::arrivals::take_clients;
+use crate::table::GateThreads;
 use std::alloc::Global;
 use std::marker::Brand;
 use std::sync::Wait;
@@ -29,18 +29,18 @@ use zre_journal::Config;
 use zre_outside::{Desk, Failed, Recorder, Sink, Spawner, Start, World};
 use zre_values::{Endpoint, Octets, OutOfMemory};
 
-/// What a gate is asked for.
+/// The arguments of the command `gate`.
 #[derive(Drop)]
 pub struct Gate {
     /// The node's settings.
     pub config: Config,
     /// How it goes on the network.
     pub start: Start,
-    /// The name under which a capture of its journal, of format 2, is kept, if it is to be kept.
+    /// The name of the file for a capture, of format 2, of its journal; `None`: no capture is recorded.
     pub capture: Option<Octets>,
-    /// Where clients come to.
+    /// The address and port at which clients connect.
     pub local: Endpoint,
-    /// How many clients there are.
+    /// The number of clients, 1 to 14.
     pub clients: u8,
 }
 
@@ -55,8 +55,8 @@ pub struct GateEnded<D: Desk, W, R> {
 }
 
 impl Gate {
-    /// Begins the capture, where one is kept, waits for all clients, and goes on the network. Then starts the node's
-    /// thread, one for each client and the closer's, prints what the node tells until it ends, and waits for all. At
+    /// Begins the capture, if one is recorded, waits for all clients, and goes on the network. Then starts the node's
+    /// thread, one for each client and the closer's, prints the node's events until it ends, and waits for all. At
     /// most `limit` octets are read of each client and `limit` turns of the world taken.
     pub fn run<D, W, O, R, P, T>(
         self,
@@ -79,9 +79,9 @@ impl Gate {
         // The settings and the name are valid, and there are one to fourteen clients.
         requires valid { is_valid self.config ≡ true }
         requires text { IfSome self.capture (λ name. is_utf8 name ≡ true) }
-        requires few { (1 ≤ self.clients) × (self.clients ≤ 14) }
-        // What was read, given, done, written and kept, and the status.
-        ensures gate { HasGated (row D.Client.left D.Client.taken D.Client.faults D.Client.refused) self limit
+        requires client_count { (1 ≤ self.clients) × (self.clients ≤ 14) }
+        // What was read, given, done, written and recorded, and the status.
+        ensures gate { HasGated (seen_client D.Client.left D.Client.taken D.Client.faults D.Client.refused) self limit
             (D.told desk) (D.told result.desk)
             (seen_beside (W.told world) (W.faults world) (O.written out.old) (O.faults out.old)
             (R.kept rec) (R.named rec) (R.faults rec) (P.faults spawner.old))
@@ -93,9 +93,9 @@ impl Gate {
             (R.refused result.rec ≡ R.refused rec) (W.refused result.world ≡ W.refused world)
             (P.faults spawner.new ≡ P.faults spawner.old)
             × Yields result.status DeskFault (D.refused result.desk ≡ D.refused desk) }
-        // What isn't used comes back as it was; counts of faults never fall.
-        ensures unkept { self.capture ≡ None → result.rec ≡ rec }
-        ensures later { (O.faults out.old ≤ O.faults out.new) × (P.faults spawner.old ≤ P.faults spawner.new) }
+        // Without a capture the recorder comes back as it was; counts of faults never fall.
+        ensures unrecorded { self.capture ≡ None → result.rec ≡ rec }
+        ensures faults { (O.faults out.old ≤ O.faults out.new) × (P.faults spawner.old ≤ P.faults spawner.new) }
     {
         are_values(&self.config);
         let keep = self.capture.is_some();
@@ -124,7 +124,7 @@ impl Gate {
         }
     }
 
-    // Begins the capture, where one is kept, waits for the clients, goes on the network, and makes what the threads
+    // Begins the capture, if one is recorded, waits for the clients, goes on the network, and makes what the threads
     // need.
     fn prepare<D: Desk, W: World, R: Recorder>(
         self,
@@ -133,31 +133,31 @@ impl Gate {
         clients: &mut Vec<D::Client>,
         world: &mut W,
         rec: &mut R,
-    ) -> Result<GateTable<D::Client>, Status>
+    ) -> Result<GateThreads<D::Client>, Status>
         // The settings and the name are valid, there are one to fourteen clients, and none has come.
         requires valid { is_valid self.config ≡ true }
         requires text { IfSome self.capture (λ name. is_utf8 name ≡ true) }
-        requires few { (1 ≤ self.clients) × (self.clients ≤ 14) }
+        requires client_count { (1 ≤ self.clients) × (self.clients ≤ 14) }
         requires none { clients.old.items ≡ [] }
-        // The pipes are laid, and the node is new.
-        ensures laid { IfOk result (λ table. IsLaid self.clients table
+        // The pipes are new, and so is the node.
+        ensures unused { IfOk result (λ table. IsUnused self.clients table
             × StandsFor self.config [] table.base.node_args.node) }
         // The clients have come, the capture is begun and the world started.
-        ensures attends { Attends self.local (D.told desk.old) (D.told desk.new) clients.new.items }
-        ensures all { OnOk result
-            (AttendsAll self.local self.clients (D.told desk.old) (D.told desk.new) clients.new.items) }
+        ensures given { HasGiven self.local (D.told desk.old) (D.told desk.new) clients.new.items }
+        ensures all_given { OnOk result
+            (HasGivenAll self.local self.clients (D.told desk.old) (D.told desk.new) clients.new.items) }
         ensures opened { OnOk result (HasOpened self.config self.start self.capture (R.begun rec.new)
             (W.told world.old) (W.told world.new) (R.kept rec.old) (R.kept rec.new)
             (R.named rec.old) (R.named rec.new)) }
-        // What isn't used stays as it was; counts of faults never fall.
-        ensures unkept { self.capture ≡ None → rec.new ≡ rec.old }
-        ensures later { (W.faults world.old ≤ W.faults world.new) × (R.faults rec.old ≤ R.faults rec.new) }
-        // Why it did not come that far.
+        // Without a capture the recorder stays as it was; counts of faults never fall.
+        ensures unrecorded { self.capture ≡ None → rec.new ≡ rec.old }
+        ensures faults { (W.faults world.old ≤ W.faults world.new) × (R.faults rec.old ≤ R.faults rec.new) }
+        // After an error: what was done before it, and which call failed.
         ensures refused { IfErr result (λ status. Unprepared self.config self.start self.capture status
             (W.told world.old) (W.told world.new) (R.kept rec.old) (R.kept rec.new) (R.named rec.old) (R.named rec.new)
             (Rose (D.faults desk.old) (D.faults desk.new)) (Rose (W.faults world.old) (W.faults world.new))
             (Rose (R.faults rec.old) (R.faults rec.new))) }
-        // Where one of them refused a call, that is the status, unless memory ran out.
+        // If the recorder, the world or the desk refused a call, the status says so, unless memory ran out.
         ensures counts { OnOk result ((R.refused rec.new ≡ R.refused rec.old)
             × (W.refused world.new ≡ W.refused world.old) × (D.refused desk.new ≡ D.refused desk.old)) }
         ensures first { IfErr result (λ status. Yields status WriteFault (R.refused rec.new ≡ R.refused rec.old)
@@ -175,11 +175,11 @@ impl Gate {
             return Err(Status::OutOfMemory);
         }
         begin(alloc, rec, &config, &capture)?;
-        if let Err(Failed) = attend(desk, local, many, clients) {
+        if let Err(Failed) = take_clients(desk, local, many, clients) {
             return Err(Status::DeskFault);
         }
         let base = enter(alloc, config, &start, world, many)?;
-        match GateTable::lay(alloc, base, many) {
+        match GateThreads::new(alloc, base, many) {
             Ok(table) => Ok(table),
             Err(OutOfMemory) => Err(Status::OutOfMemory),
         }

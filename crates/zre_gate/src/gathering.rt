@@ -1,9 +1,9 @@
-//! All clients are waited for.
+//! The answers of the clients are waited for, in the order of their places.
 
 ghost use Rattle.std.specs.Prelude.{◌≡◌, ◌≤◌, ◌<◌, ◌+◌, ◌||◌, ◌∷◌, [], Some, map, take, length, vec_len, vec_capacity};
 ghost use Rattle.zre_actor.specs.Passes.{IsCallerOf};
 ghost use Rattle.zre_console.specs.Statuses.{least};
-ghost use Rattle.zre_gate.specs.Clients.{row, of_client as client_status, is_over as is_over_end};
+ghost use Rattle.zre_gate.specs.Clients.{seen_client, of_client as client_status, is_over as is_over_end};
 ghost use Rattle.zre_actor.specs.declared.passes.CallerPass.{CallerPass as CallerPassValue};
 ghost use Rattle.zre_gate.specs.Gathering.{Gathers, IsClientList, IsFull, GathersAll};
 ghost use Rattle.zre_gate.specs.ClientLists.{ClientList};
@@ -97,17 +97,17 @@ where
     // The pass belongs to the pipes, before and after; the list has room for one more.
     requires pipes { IsCallerOf pipes.now gathered.pass }
     requires client_list { ∥ IsClientList B.client_list pipes.now ∥₁ }
-    requires room { vec_len gathered.clients < vec_capacity gathered.clients }
+    requires capacity { vec_len gathered.clients < vec_capacity gathered.clients }
     ensures pipes { IsCallerOf pipes.now result.pass }
-    ensures room { (vec_len result.clients ≡ vec_len gathered.clients + 1)
+    ensures capacity { (vec_len result.clients ≡ vec_len gathered.clients + 1)
         × (vec_capacity result.clients ≡ vec_capacity gathered.clients) }
     // One client more is gathered.
     ensures gathers { (there : ClientList) (first : CallerPassValue) → B.client_list ≡ Some there
         → ∥ Gathers there.limit (take place there.new_clients)
-        (map (row C.left C.taken C.faults C.refused) gathered.clients.items) first gathered.pass gathered.status
+        (map (seen_client C.left C.taken C.faults C.refused) gathered.clients.items) first gathered.pass gathered.status
         gathered.over ∥₁
         → ∥ Gathers there.limit (take (place + 1) there.new_clients)
-        (map (row C.left C.taken C.faults C.refused) result.clients.items) first result.pass result.status
+        (map (seen_client C.left C.taken C.faults C.refused) result.clients.items) first result.pass result.status
         result.over ∥₁ }
 {
     let GatheredClients {
@@ -145,11 +145,11 @@ where
     requires pipes { IsCallerOf pipes.now pass }
     requires client_list { ∥ IsClientList B.client_list pipes.now ∥₁ }
     requires many { IsFull B.client_list (length lines.items) }
-    requires room { (clients.items ≡ []) × (length lines.items ≤ vec_capacity clients) }
+    requires capacity { (clients.items ≡ []) × (length lines.items ≤ vec_capacity clients) }
     ensures pipes { IsCallerOf pipes.now result.pass }
     // All clients are gathered.
-    ensures gathers { GathersAll B.client_list (map (row C.left C.taken C.faults C.refused) result.clients.items) pass
-        result.pass result.status result.over }
+    ensures gathers { GathersAll B.client_list (map (seen_client C.left C.taken C.faults C.refused) result.clients.items)
+        pass result.pass result.status result.over }
 {
     let mut gathered = GatheredClients {
         clients,

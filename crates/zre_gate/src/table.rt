@@ -5,7 +5,7 @@ ghost use Rattle.std.specs.Arc.{arc_value};
 ghost use Rattle.zre_actor.specs.Commands.{times};
 ghost use Rattle.zre_actor.specs.Passes.{AreCallersOf, IsNew, fresh_of, given_of, room_of, numbers_of};
 ghost use Rattle.zre_console.specs.Tables.{AreCallerArgs, IsLaid as IsBase, HasMore};
-ghost use Rattle.zre_gate.specs.Tables.{IsLaid, caller_number};
+ghost use Rattle.zre_gate.specs.Tables.{IsUnused, caller_number};
 
 use std::alloc::Global;
 use std::collections::VecDeque;
@@ -16,9 +16,10 @@ use zre_console::places::{CallerArgs, caller_args};
 use zre_console::table::Table as Base;
 use zre_values::OutOfMemory;
 
-/// What a chat's threads need too, what each client's thread puts commands with, and room for the clients.
+/// What the threads of a gate start with: the pipes with their passes, what each client's thread puts commands with,
+/// and a list with room for the clients.
 #[derive(Drop)]
-pub(crate) struct GateTable<C> {
+pub(crate) struct GateThreads<C> {
     pub base: Base,
     pub all_args: VecDeque<CallerArgs>,
     pub left: Vec<C>,
@@ -54,14 +55,14 @@ fn caller_args_for(
     Ok(all_args)
 }
 
-impl<C: Drop> GateTable<C> {
+impl<C: Drop> GateThreads<C> {
     /// Gives each of so many clients what its thread puts commands with.
-    pub fn lay(alloc: Global, mut base: Base, many: u8) -> Result<GateTable<C>, OutOfMemory>
-        // The pipes are laid, with passes for the clients.
-        requires laid { IsBase many base }
+    pub fn new(alloc: Global, mut base: Base, many: u8) -> Result<GateThreads<C>, OutOfMemory>
+        // The pipes are new, with passes for the clients.
+        requires unused { IsBase many base }
         requires more { HasMore many base }
         // Each client has its place; the node's is as it was.
-        ensures laid { IfOk result (IsLaid many) }
+        ensures unused { IfOk result (IsUnused many) }
         ensures node_args { IfOk result (λ t. t.base.node_args ≡ base.node_args) }
     {
         let left = Vec::with_capacity(alloc, usize::from(many))?;
@@ -72,7 +73,7 @@ impl<C: Drop> GateTable<C> {
             &mut base.others.callers,
             many,
         )?;
-        Ok(GateTable {
+        Ok(GateThreads {
             base,
             all_args,
             left,

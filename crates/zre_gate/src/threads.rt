@@ -12,15 +12,15 @@ ghost use Rattle.zre_console.specs.Lived.{Seen};
 ghost use Rattle.zre_console.specs.Stages.{Prepared};
 ghost use Rattle.zre_console.specs.Statuses.{IsFirst};
 ghost use Rattle.zre_console.specs.Tables.{AreCallerArgs};
-ghost use Rattle.zre_gate.specs.Clients.{row};
+ghost use Rattle.zre_gate.specs.Clients.{seen_client};
 ghost use Rattle.zre_gate.specs.Gate.{IsGate, seen_beside};
 ghost use Rattle.zre_gate.specs.ClientLists.{client_list_of};
-ghost use Rattle.zre_gate.specs.Tables.{IsLaid, caller_number};
+ghost use Rattle.zre_gate.specs.Tables.{IsUnused, caller_number};
 
 use crate::client::{Answer, ClientJob};
 use crate::closer::CloserJob;
 use crate::gate_name::GateName;
-use crate::table::GateTable;
+use crate::table::GateThreads;
 use crossbeam_channel::{Receiver, Sender, bounded};
 use std::alloc::Global;
 use std::collections::VecDeque;
@@ -45,7 +45,7 @@ struct AnswerLines<C: Source, B: GateName> {
 
 impl<C: Source + Send + Drop + 'static, B: GateName + Send + 'static> AnswerLines<C, B> {
     // A channel with room for one answer for each of so many clients.
-    fn lay(alloc: Global, many: u64) -> Result<Self, OutOfMemory>
+    fn new(alloc: Global, many: u64) -> Result<Self, OutOfMemory>
         ensures { IfOk result (λ lines. (length lines.ins.items ≡ many) × (length lines.outs.items ≡ many)) }
     {
         let mut ins = VecDeque::new(alloc);
@@ -79,15 +79,15 @@ where
     P: Spawner,
     T: Wait + Copy,
     // There is room for one more.
-    requires room { vec_len client_threads.old.running < vec_capacity client_threads.old.running }
-    ensures room { (vec_len client_threads.new.running ≤ vec_len client_threads.old.running + 1)
+    requires capacity { vec_len client_threads.old.running < vec_capacity client_threads.old.running }
+    ensures capacity { (vec_len client_threads.new.running ≤ vec_len client_threads.old.running + 1)
         × (vec_capacity client_threads.new.running ≡ vec_capacity client_threads.old.running) }
     // Whether a start was refused; the spawner's count rises then.
     ensures refused { client_threads.new.refused ≡ true
         → (client_threads.old.refused ≡ true) ⊎ Rose (P.faults spawner.old) (P.faults spawner.new) }
     ensures counts { client_threads.new.refused ≡ false
         → (client_threads.old.refused ≡ false) × (P.faults spawner.new ≡ P.faults spawner.old) }
-    ensures later { P.faults spawner.old ≤ P.faults spawner.new }
+    ensures faults { P.faults spawner.old ≤ P.faults spawner.new }
 {
     match start(spawner, job, client_threads.refused) {
         Ok(running) => client_threads.running.push_reserved(running),
@@ -125,14 +125,14 @@ impl<C: Source + Send + Drop + 'static, B: GateName + Send + 'static> ClientStar
         // Each client has its place and its pass, and there is room for all.
         requires many { (length self.all_args.items ≡ length clients.items)
             × (length self.ins.items ≡ length clients.items) }
-        requires room { (running.items ≡ []) × (length clients.items ≤ vec_capacity running) }
+        requires capacity { (running.items ≡ []) × (length clients.items ≤ vec_capacity running) }
         requires client_list { (pipes : PipesValue) × All (AreCallerArgs pipes) self.all_args.items
             × (B.client_list ≡ Some (client_list_of pipes self.limit (map caller_number self.all_args.items)
-            (map (row C.left C.taken C.faults C.refused) clients.items))) }
+            (map (seen_client C.left C.taken C.faults C.refused) clients.items))) }
         // Whether a start was refused; the spawner's count rises then.
         ensures refused { result.refused ≡ true → Rose (P.faults spawner.old) (P.faults spawner.new) }
         ensures counts { result.refused ≡ false → P.faults spawner.new ≡ P.faults spawner.old }
-        ensures later { P.faults spawner.old ≤ P.faults spawner.new }
+        ensures faults { P.faults spawner.old ≤ P.faults spawner.new }
     {
         let mut client_threads = ClientThreads {
             running,
@@ -174,7 +174,7 @@ fn join_all<J: Task, T: Threads + Copy>(rt: T, running: Vec<Running<J>>) {
     }
 }
 
-impl<C: Source + Send + Drop + 'static> GateTable<C> {
+impl<C: Source + Send + Drop + 'static> GateThreads<C> {
     /// Starts the node's thread, one for each client and the closer's, prints, and waits for all of them.
     pub(crate) fn serve<W, O, R, P, T, B>(
         self,
@@ -192,13 +192,13 @@ impl<C: Source + Send + Drop + 'static> GateTable<C> {
         P: Spawner,
         T: Wait + Threads + Copy,
         B: GateName + Send + 'static,
-        // The pipes are laid, and the capture is begun where one is kept.
-        requires laid { IsLaid (length clients.items) self }
+        // The pipes are new, and the capture is begun if one is recorded.
+        requires unused { IsUnused (length clients.items) self }
         requires begun { work.keep ≡ true → R.begun work.rec ≡ true }
         requires client_list { B.client_list ≡ Some (client_list_of (arc_value self.base.others.printer.pipes)
             work.limit (map caller_number self.all_args.items)
-            (map (row C.left C.taken C.faults C.refused) clients.items)) }
-        // What was read, given, done, written and kept, and the status.
+            (map (seen_client C.left C.taken C.faults C.refused) clients.items)) }
+        // What was read, given, done, written and recorded, and the status.
         ensures gate { (g : ConfigValue) (start : StartValue) (name : Option (List ℕ)) (s : Seen) (before after : ℕ)
             → StandsFor g [] self.base.node_args.node →
             Prepared g start name work.keep s (seen_beside (W.told work.world) (W.faults work.world)
@@ -207,15 +207,15 @@ impl<C: Source + Send + Drop + 'static> GateTable<C> {
             IsGate g start name work.limit (length clients.items) s
             (seen_beside (W.told result.world) (W.faults result.world) (O.written out.new) (O.faults out.new)
             (R.kept result.rec) (R.named result.rec) (R.faults result.rec) (P.faults spawner.new))
-            (Rose before after) (map (row C.left C.taken C.faults C.refused) clients.items)
-            (map (row C.left C.taken C.faults C.refused) result.input.items) result.status }
+            (Rose before after) (map (seen_client C.left C.taken C.faults C.refused) clients.items)
+            (map (seen_client C.left C.taken C.faults C.refused) result.input.items) result.status }
         // The status is the first of what occurred.
         ensures first { IsFirst result.status (O.refused out.new ≡ O.refused out.old)
             (R.refused result.rec ≡ R.refused work.rec) (W.refused result.world ≡ W.refused work.world)
             (P.faults spawner.new ≡ P.faults spawner.old) }
-        // What isn't used comes back as it was; counts of faults never fall.
-        ensures unkept { work.keep ≡ false → result.rec ≡ work.rec }
-        ensures later { (O.faults out.old ≤ O.faults out.new) × (P.faults spawner.old ≤ P.faults spawner.new) }
+        // Without a capture the recorder comes back as it was; counts of faults never fall.
+        ensures unrecorded { work.keep ≡ false → result.rec ≡ work.rec }
+        ensures faults { (O.faults out.old ≤ O.faults out.new) × (P.faults spawner.old ≤ P.faults spawner.new) }
     {
         let Ok(room) = room_for::<C, B>(alloc, clients.len() as u64) else {
             return Ended {
@@ -225,7 +225,7 @@ impl<C: Source + Send + Drop + 'static> GateTable<C> {
                 rec: work.rec,
             };
         };
-        let GateTable {
+        let GateThreads {
             base,
             all_args,
             left,
@@ -277,7 +277,7 @@ where
     ensures lines { IfOk result (λ room. (length room.0.ins.items ≡ many) × (length room.0.outs.items ≡ many)) }
     ensures threads { IfOk result (λ room. (room.1.items ≡ []) × (many ≤ vec_capacity room.1)) }
 {
-    let lines = AnswerLines::lay(alloc, many)?;
+    let lines = AnswerLines::new(alloc, many)?;
     let running = Vec::with_capacity(alloc, many as usize)?;
     Ok((lines, running))
 }

@@ -1,5 +1,5 @@
 use Rattle.std.proofs.Math.Logic.{∥∥₁_map}
-use Rattle.zre_gate.proofs.Gathered.{not_closed, has_closed}
+use Rattle.zre_gate.proofs.GatheredClients.{not_closed, has_closed}
 use Rattle.zre_gate.proofs.closer.close_after.Goals as goal
 
 pub returns-then-was_over-clause-closes : goal.returns-then-was_over-clause-closes

@@ -2,9 +2,9 @@ use Rattle.std.proofs.Common.{◌++◌, ◌∷◌, [], ◌∙◌, false, map, re
 use Rattle.std.proofs.Math.Logic.{∥∥₁_map}
 use Rattle.std.specs.Vec.Iter.{into_iter_items}
 use Rattle.zre_commands.specs.declared.pump.status.Status.TheVariants.{Done}
-use Rattle.zre_gate.specs.Clients.{row}
+use Rattle.zre_gate.specs.Clients.{seen_client}
 use Rattle.zre_gate.specs.Gathering.{Gathers}
-use Rattle.zre_gate.proofs.Gathered.{all_gathered, none_gathered}
+use Rattle.zre_gate.proofs.GatheredClients.{all_gathered, none_gathered}
 use Rattle.zre_gate.proofs.gathering.gather.Goals as goal
 
 pub loop-line-init : goal.loop-line-init
@@ -13,8 +13,8 @@ loop-line-init g c =
       pipes = c.requires.pipes;
       rest = sym c.into_iter-line-iterator.ensures.into_iter_gives.0;
       place = refl;
-      room = (omega (arith, a.clients.ok, ap length c.requires.room.0), refl);
-      came = λ there known. subst (λ xs. ∥ Gathers there.limit [] (map (row i.left i.taken i.faults i.refused) xs) a.pass a.pass Done false ∥₁) (sym c.requires.room.0) ∣ none_gathered there.limit a.pass ∣₁;
+      capacity = (omega (arith, a.clients.ok, ap length c.requires.capacity.0), refl);
+      came = λ there known. subst (λ xs. ∥ Gathers there.limit [] (map (seen_client i.left i.taken i.faults i.refused) xs) a.pass a.pass Done false ∥₁) (sym c.requires.capacity.0) ∣ none_gathered there.limit a.pass ∣₁;
     }
 
 pub loop-line-preserved : goal.loop-line-preserved
@@ -23,7 +23,7 @@ loop-line-preserved g c =
       pipes = one.pipes;
       rest = i.rest ∙ ap (λ l. c.loop-line.yielded ++ l) c.in-Some.ensures.steps.0 ∙ sym (append_assoc c.loop-line.yielded (c.in-Some.line ∷ []) (into_iter_items c.next.new.self));
       place = omega (arith, i.place, length-append c.loop-line.yielded (c.in-Some.line ∷ []));
-      room = (omega (arith, one.room.0, i.room.0), one.room.1 ∙ i.room.1);
+      capacity = (omega (arith, one.capacity.0, i.capacity.0), one.capacity.1 ∙ i.capacity.1);
       came = λ there known. one.gathers there _ known (i.came there known);
     }
 

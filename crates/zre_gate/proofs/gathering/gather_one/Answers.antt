@@ -3,11 +3,11 @@ use Rattle.std.proofs.Math.Logic.{∥∥₁_prop, ∥∥₁_map, ∥∥₁_elim}
 use Rattle.std.proofs.lemmas.List.{map-append}
 use Rattle.std.specs.Prelude.{◌||◌}
 use Rattle.zre_actor.specs.Passes.{IsCallerOf}
-use Rattle.zre_gate.specs.Clients.{row}
+use Rattle.zre_gate.specs.Clients.{seen_client}
 use Rattle.zre_gate.specs.Gathering.{Gathers}
 use Rattle.zre_gate.specs.ClientLists.{IsAnswer}
-use Rattle.zre_gate.proofs.Answering.{caller_prop}
-use Rattle.zre_gate.proofs.Gathered.{next_gathered, same_client_list}
+use Rattle.zre_gate.proofs.ClientAnswers.{caller_prop}
+use Rattle.zre_gate.proofs.GatheredClients.{next_gathered, same_client_list}
 use Rattle.zre_gate.proofs.gathering.gather_one.Goals as goal
 
 pub absorb-pass-requires : goal.absorb-pass-requires
@@ -20,7 +20,7 @@ absorb-pass-requires g c = (
 pub returns-clause-gathers : goal.returns-clause-gathers
 returns-clause-gathers g c = λ there first known gathers. (
     let i = g.C.Source in let came = c.wait_for-answer in let a = came.result.done in let old = c.args.gathered in
-    let look = row i.left i.taken i.faults i.refused in
+    let look = seen_client i.left i.taken i.faults i.refused in
     ∥∥₁_elim (subst (λ p. ∥ IsAnswer g.B.GateName.client_list p (look a.input) a.pass a.end ∥₁) came.ensures came.result.known) ∥∥₁_prop (λ answered.
     ∥∥₁_map gathers (λ gs.
     subst (λ l. Gathers there.limit (take (c.args.place + 1) there.new_clients) l first c.absorb-pass.result c.with_client.result c.either.result) (sym (ap (map look) c.push_reserved.ensures.items ∙ map-append look old.clients.items (a.input ∷ [])))

@@ -2,7 +2,7 @@ use Rattle.std.proofs.Common.{sym, subst}
 use Rattle.std.proofs.Math.Logic.{∥∥₁_map}
 use Rattle.zre_actor.specs.Passes.{IsCallerOf}
 use Rattle.zre_gate.specs.Gathering.{IsClientList}
-use Rattle.zre_gate.proofs.Gathered.{not_closed}
+use Rattle.zre_gate.proofs.GatheredClients.{not_closed}
 use Rattle.zre_gate.proofs.closer.CloserJobExcused.excuse.Goals as goal
 
 pub gather-clients-requires-clause-client_list : goal.gather-clients-requires-clause-client_list

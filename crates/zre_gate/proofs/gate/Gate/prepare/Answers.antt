@@ -8,26 +8,26 @@ use Rattle.zre_commands.specs.declared.pump.status.Status.TheVariants.{OutOfMemo
 use Rattle.zre_console.proofs.PreparingFailed.{not_begun, not_entered}
 use Rattle.zre_console.proofs.First.{below_self}
 use Rattle.zre_console.proofs.Unstarted.{none_started}
-use Rattle.zre_gate.specs.Gate.{attended}
-use Rattle.zre_gate.specs.Stages.{Attends}
-use Rattle.zre_gate.proofs.Attended.{not_attended}
+use Rattle.zre_gate.specs.Gate.{with_clients}
+use Rattle.zre_gate.specs.Stages.{HasGiven}
+use Rattle.zre_gate.proofs.DeskClients.{none_given}
 use Rattle.zre_gate.proofs.gate.Gate.prepare.Goals as goal
 
 -- no client came yet
-none_came : {C : Type 0} (place : Endpoint) (told : Option (Register C)) (given : List C) → given ≡ [] → Attends place told told given
-none_came place told given none = record { begun = false; is_told = subst (λ xs. told ≡ option_map (attended false place xs) told) (sym none) (not_attended place told) }
+none_came : {C : Type 0} (place : Endpoint) (told : Option (Register C)) (given : List C) → given ≡ [] → HasGiven place told told given
+none_came place told given none = record { begun = false; is_told = subst (λ xs. told ≡ option_map (with_clients false place xs) told) (sym none) (none_given place told) }
 
 -- no memory for the clients
-pub returns-then-is_err-clause-attends : goal.returns-then-is_err-clause-attends
-returns-then-is_err-clause-attends g c = none_came _ _ _ (c.reserve.ensures.items ∙ c.requires.none)
+pub returns-then-is_err-clause-given : goal.returns-then-is_err-clause-given
+returns-then-is_err-clause-given g c = none_came _ _ _ (c.reserve.ensures.items ∙ c.requires.none)
 
 pub returns-then-is_err-clause-refused : goal.returns-then-is_err-clause-refused
 returns-then-is_err-clause-refused g c =
     let w = g.W.World in let r = g.R.Recorder in let a = c.args in
     not_begun a.self.config a.self.start a.self.capture OutOfMemory (w.told a.world.now) (w.told a.world.now) (r.kept a.rec.now) (r.kept a.rec.now) (r.named a.rec.now) (r.named a.rec.now) _ _ _ refl tt
 
-pub returns-in_err-begin-clause-attends : goal.returns-in_err-begin-clause-attends
-returns-in_err-begin-clause-attends g c = none_came _ _ _ (c.reserve.ensures.items ∙ c.requires.none)
+pub returns-in_err-begin-clause-given : goal.returns-in_err-begin-clause-given
+returns-in_err-begin-clause-given g c = none_came _ _ _ (c.reserve.ensures.items ∙ c.requires.none)
 
 pub returns-in_err-begin-clause-refused : goal.returns-in_err-begin-clause-refused
 returns-in_err-begin-clause-refused g c =

@@ -11,7 +11,7 @@ invariant-loop-input g l = record {
   place : l.place ≡ length l.yielded;
   all_args : (front : List CallerArgs) × (l.fn.self.all_args.items ≡ front ++ l.self.all_args.items) × (length front ≡ l.place);
   ins : length l.self.ins.items + l.place ≡ length l.fn.clients.items;
-  room : (vec_len l.client_threads.running ≤ l.place) × (vec_capacity l.client_threads.running ≡ vec_capacity l.fn.running);
+  capacity : (vec_len l.client_threads.running ≤ l.place) × (vec_capacity l.client_threads.running ≡ vec_capacity l.fn.running);
   refused : l.client_threads.refused ≡ true → Rose (g.P.Spawner.faults l.fn.spawner) (g.P.Spawner.faults l.spawner);
   counts : l.client_threads.refused ≡ false → g.P.Spawner.faults l.spawner ≡ g.P.Spawner.faults l.fn.spawner;
   later : g.P.Spawner.faults l.fn.spawner ≤ g.P.Spawner.faults l.spawner;

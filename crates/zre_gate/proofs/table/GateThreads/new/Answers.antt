@@ -1,10 +1,10 @@
 use Rattle.std.proofs.Common.{◌≤◌, ◌∙◌, subst, arith}
 use Rattle.std.specs.Prelude.{vec_capacity}
-use Rattle.zre_gate.proofs.table.GateTable.lay.Goals as goal
+use Rattle.zre_gate.proofs.table.GateThreads.new.Goals as goal
 
-pub returns-clause-laid : goal.returns-clause-laid
-returns-clause-laid g c =
-    let l = c.requires.laid in let m = c.requires.more in let all_args = c.in_ok-all_args.ensures in
+pub returns-clause-unused : goal.returns-clause-unused
+returns-clause-unused g c =
+    let l = c.requires.unused in let m = c.requires.more in let all_args = c.in_ok-all_args.ensures in
     record {
       base = record {
         node_args = l.node_args;
@@ -20,5 +20,5 @@ returns-clause-laid g c =
       are_args = all_args.all_args;
       many_args = all_args.many;
       apart = λ n. (let most = m.apart n in let same = all_args.numbers n in omega (arith, most, same));
-      left_room = (c.in_ok-left.ensures.items, subst (λ n. n ≤ vec_capacity c.in_ok-left.left) c.from.ensures c.in_ok-left.ensures.capacity);
+      capacity = (c.in_ok-left.ensures.items, subst (λ n. n ≤ vec_capacity c.in_ok-left.left) c.from.ensures c.in_ok-left.ensures.capacity);
     }

@@ -1,5 +1,5 @@
 use Rattle.std.proofs.Common.{◌≡◌, length}
-use Rattle.zre_gate.proofs.threads.AnswerLines.lay.Given as goal
+use Rattle.zre_gate.proofs.threads.AnswerLines.new.Given as goal
 
 abbrev pub invariant-each : goal.invariant-each
 invariant-each g l = record {

@@ -4,7 +4,7 @@ use Rattle.std.specs.Prelude.{All}
 use Rattle.std.proofs.lemmas.List.Elements.{All-nil, All-cons, All-weaker}
 use Rattle.zre_actor.specs.Commands.{times}
 use Rattle.zre_actor.proofs.Sums.{is_first}
-use Rattle.zre_gate.specs.Clients.{ClientRow}
+use Rattle.zre_gate.specs.Clients.{SeenClient}
 use Rattle.zre_gate.specs.ClientLists.{NewClient, new_client, new_client_at, new_clients_of, number_of, before_of}
 
 abbrev or_else : NewClient → Option NewClient → NewClient
@@ -20,25 +20,25 @@ new_client_taken (y ∷ ys) (suc k) x at =
     ap (λ n. take n (y ∷ ys)) e ∙ ap (λ l. y ∷ l) (new_client_taken ys k x at)
 
 -- each has its number and what it tells
-pub new_client_there : (ns ms : List ℕ) (rs ss : List ClientRow) (n : ℕ) (r : ClientRow) → length ns ≡ length rs → new_client_at (new_clients_of (ns ++ n ∷ ms) (rs ++ r ∷ ss)) (length ns) ≡ Some (new_client n r)
+pub new_client_there : (ns ms : List ℕ) (rs ss : List SeenClient) (n : ℕ) (r : SeenClient) → length ns ≡ length rs → new_client_at (new_clients_of (ns ++ n ∷ ms) (rs ++ r ∷ ss)) (length ns) ≡ Some (new_client n r)
 new_client_there [] ms [] ss n r same = refl
 new_client_there [] ms (q ∷ rs) ss n r same = absurd (omega (arith, same))
 new_client_there (m ∷ ns) ms [] ss n r same = absurd (omega (arith, same))
 new_client_there (m ∷ ns) ms (q ∷ rs) ss n r same = new_client_there ns ms rs ss n r (omega (arith, same))
 
-pub new_clients_length : (ns : List ℕ) (rs : List ClientRow) → length ns ≡ length rs → length (new_clients_of ns rs) ≡ length rs
+pub new_clients_length : (ns : List ℕ) (rs : List SeenClient) → length ns ≡ length rs → length (new_clients_of ns rs) ≡ length rs
 new_clients_length [] [] same = refl
 new_clients_length [] (r ∷ rs) same = absurd (omega (arith, same))
 new_clients_length (n ∷ ns) [] same = absurd (omega (arith, same))
 new_clients_length (n ∷ ns) (r ∷ rs) same = ap suc (new_clients_length ns rs (omega (arith, same)))
 
-pub new_clients_numbers : (ns : List ℕ) (rs : List ClientRow) → length ns ≡ length rs → map number_of (new_clients_of ns rs) ≡ ns
+pub new_clients_numbers : (ns : List ℕ) (rs : List SeenClient) → length ns ≡ length rs → map number_of (new_clients_of ns rs) ≡ ns
 new_clients_numbers [] [] same = refl
 new_clients_numbers [] (r ∷ rs) same = refl
 new_clients_numbers (n ∷ ns) [] same = absurd (omega (arith, same))
 new_clients_numbers (n ∷ ns) (r ∷ rs) same = ap (λ l. n ∷ l) (new_clients_numbers ns rs (omega (arith, same)))
 
-pub new_clients_before : (ns : List ℕ) (rs : List ClientRow) → length ns ≡ length rs → map before_of (new_clients_of ns rs) ≡ rs
+pub new_clients_before : (ns : List ℕ) (rs : List SeenClient) → length ns ≡ length rs → map before_of (new_clients_of ns rs) ≡ rs
 new_clients_before [] [] same = refl
 new_clients_before [] (r ∷ rs) same = absurd (omega (arith, same))
 new_clients_before (n ∷ ns) [] same = absurd (omega (arith, same))

@@ -15,11 +15,11 @@ use Rattle.zre_console.specs.declared.reader.ending.InputEnd.TheVariants as end
 use Rattle.zre_console.specs.reader.Reading.{LinesOutcome, HasReadLines, EndsByRefusal}
 use Rattle.zre_console.proofs.lines.Quits.{typed-begin}
 use Rattle.zre_console.proofs.reader.Puts.{puts-none}
-use Rattle.zre_gate.specs.Clients.{ClientRow}
+use Rattle.zre_gate.specs.Clients.{SeenClient}
 use Rattle.zre_gate.specs.ClientLists.{ClientList, IsNewClient, IsAnswer}
 
 -- what was read of a client of a client_list is its answer
-pub answered : (client_list : Option ClientList) (pipes : Pipes) (limit place : ℕ) (pass pass' : CallerPass) (before after : ClientRow) (e : InputEnd)
+pub answered : (client_list : Option ClientList) (pipes : Pipes) (limit place : ℕ) (pass pass' : CallerPass) (before after : SeenClient) (e : InputEnd)
     → IsNewClient client_list pipes limit place pass before → IsCallerOf pipes pass'
     → HasReadLines e limit pass pass' before.left after.left before.taken after.taken (Rose before.faults after.faults)
     → before.faults ≤ after.faults → EndsByRefusal e before.refused after.refused → IsAnswer client_list place after pass' e
@@ -45,7 +45,7 @@ answered client_list pipes limit place pass pass' before after e k of_pipes h la
 }
 
 -- of one that wasn't started nothing was read
-pub left_alone : (client_list : Option ClientList) (pipes : Pipes) (limit place : ℕ) (pass : CallerPass) (before : ClientRow)
+pub left_alone : (client_list : Option ClientList) (pipes : Pipes) (limit place : ℕ) (pass : CallerPass) (before : SeenClient)
     → IsNewClient client_list pipes limit place pass before → IsAnswer client_list place before pass end.Over
 left_alone client_list pipes limit place pass before k =
     answered client_list pipes limit place pass pass before before end.Over k (subst (λ (p : Pipes). IsCallerOf p pass) (sym k.same_pipes) k.of_pipes) (record {

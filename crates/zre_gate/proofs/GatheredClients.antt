@@ -16,10 +16,10 @@ use Rattle.zre_commands.specs.declared.pump.status.Status.{Status}
 use Rattle.zre_commands.specs.declared.pump.status.Status.TheVariants.{Done, TooLong, OutOfMemory}
 use Rattle.zre_console.specs.Statuses.{least}
 use Rattle.zre_console.proofs.LeastStatus.{memory_here}
-use Rattle.zre_gate.specs.Clients.{ClientRow, Served, IsServed, put_for, put_for_all, after_of, is_over, of_client}
+use Rattle.zre_gate.specs.Clients.{SeenClient, Served, IsServed, put_for, put_for_all, after_of, is_over, of_client}
 use Rattle.zre_gate.specs.Gathering.{IsOwnEnd, IsWell, Ends, Gathers, Closes}
 use Rattle.zre_gate.specs.ClientLists.{ClientList, NewClient, IsAnswer, number_of, new_client_at, new_client_of}
-use Rattle.zre_gate.proofs.Places.{new_client_taken}
+use Rattle.zre_gate.proofs.ClientPlaces.{new_client_taken}
 use Rattle.std.proofs.Math.Seq.{take-length}
 
 -- ---- what several ends come to
@@ -86,7 +86,7 @@ none_gathered limit p = record {
   own_ends = λ _. All-nil IsOwnEnd;
 }
 
-pub one_gathered : (limit : ℕ) (new_clients : List NewClient) (x : NewClient) (afters : List ClientRow) (r : ClientRow) (p q q' o : CallerPass) (status status' : Status) (over over' : Bool)
+pub one_gathered : (limit : ℕ) (new_clients : List NewClient) (x : NewClient) (afters : List SeenClient) (r : SeenClient) (p q q' o : CallerPass) (status status' : Status) (over over' : Bool)
     → Gathers limit new_clients afters p q status over → (s : Served) → new_client_of s ≡ x → s.after ≡ r → IsServed limit s → number o ≡ s.number → ended o ≡ [] → put_by o ≡ put_for s
     → number q' ≡ number q → ended q' ≡ ended q ++ number o ∷ ended o → put_by q' ≡ put_by q ++ put_by o
     → status' ≡ least (of_client s.end ∷ status ∷ []) → over' ≡ (over || is_over s.end)
@@ -110,7 +110,7 @@ one_gathered limit new_clients x afters r p q q' o status status' over over' g s
 
 -- ---- the quit
 
-module _ (limit : ℕ) (new_clients : List NewClient) (afters : List ClientRow) (old mid : CallerPass) (status : Status) (over : Bool) (g : Gathers limit new_clients afters old mid status over) where
+module _ (limit : ℕ) (new_clients : List NewClient) (afters : List SeenClient) (old mid : CallerPass) (status : Status) (over : Bool) (g : Gathers limit new_clients afters old mid status over) where
   pub not_closed : Closes limit new_clients afters old mid status
   not_closed = record { mid = mid; over = over; gathers = g; tail = []; closes = inl refl; puts = puts-none mid; calm = λ _. refl }
 
@@ -126,7 +126,7 @@ module _ (limit : ℕ) (new_clients : List NewClient) (afters : List ClientRow) 
   }
 
 -- so many passes were absorbed
-pub closed_ended : (limit : ℕ) (new_clients : List NewClient) (afters : List ClientRow) (old new : CallerPass) (status : Status) → Closes limit new_clients afters old new status → ended old ≡ [] → length (ended new) ≡ length new_clients
+pub closed_ended : (limit : ℕ) (new_clients : List NewClient) (afters : List SeenClient) (old new : CallerPass) (status : Status) → Closes limit new_clients afters old new status → ended old ≡ [] → length (ended new) ≡ length new_clients
 closed_ended limit new_clients afters old new status k none =
     ap length (k.puts.same_ended ∙ k.gathers.absorbed ∙ ap (λ l. l ++ map number_of new_clients) none) ∙ length-map new_clients number_of
 
@@ -139,7 +139,7 @@ or_this d (Some h) = h
 pub same_client_list : (client_list : Option ClientList) (a b : ClientList) → client_list ≡ Some a → client_list ≡ Some b → a ≡ b
 same_client_list client_list a b is also = ap (or_this a) (sym is ∙ also)
 
-pub next_gathered : (client_list : Option ClientList) (there : ClientList) (first q q' o : CallerPass) (place : ℕ) (afters : List ClientRow) (r : ClientRow) (status status' : Status) (over over' : Bool) (end : InputEnd)
+pub next_gathered : (client_list : Option ClientList) (there : ClientList) (first q q' o : CallerPass) (place : ℕ) (afters : List SeenClient) (r : SeenClient) (status status' : Status) (over over' : Bool) (end : InputEnd)
     → IsAnswer client_list place r o end → client_list ≡ Some there → Gathers there.limit (take place there.new_clients) afters first q status over
     → number q' ≡ number q → ended q' ≡ ended q ++ number o ∷ ended o → put_by q' ≡ put_by q ++ put_by o
     → status' ≡ least (of_client end ∷ status ∷ []) → over' ≡ (over || is_over end)
@@ -153,7 +153,7 @@ next_gathered client_list there first q q' o place afters r status status' over 
     (st ∙ ap (λ x. least (of_client x ∷ status ∷ [])) (sym a.is_end)) (ov ∙ ap (λ x. over || is_over x) (sym a.is_end)))
 
 -- all of them
-pub all_gathered : (there : ClientList) (first q : CallerPass) (place : ℕ) (afters : List ClientRow) (status : Status) (over : Bool) → length there.new_clients ≡ place
+pub all_gathered : (there : ClientList) (first q : CallerPass) (place : ℕ) (afters : List SeenClient) (status : Status) (over : Bool) → length there.new_clients ≡ place
     → Gathers there.limit (take place there.new_clients) afters first q status over → Gathers there.limit there.new_clients afters first q status over
 all_gathered there first q place afters status over all g =
     subst (λ l. Gathers there.limit l afters first q status over) (ap (λ n. take n there.new_clients) (sym all) ∙ take-length there.new_clients) g

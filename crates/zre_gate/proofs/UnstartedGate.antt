@@ -18,15 +18,15 @@ use Rattle.zre_commands.specs.declared.pump.status.Status.TheVariants.{Done, Wri
 use Rattle.zre_console.specs.Lived.{Seen, Holds, started}
 use Rattle.zre_console.specs.Stages.{IsEarly}
 use Rattle.zre_console.proofs.Unstarted.{unlived, unwritten, uncaptured}
-use Rattle.zre_gate.specs.Clients.{ClientRow}
+use Rattle.zre_gate.specs.Clients.{SeenClient}
 use Rattle.zre_gate.specs.Gate.{Client, IsClient, IsCaused, IsGate, before_of, after_of, handed_of}
 use Rattle.zre_gate.specs.Interleaving.{IsInterleaving, of_name}
 
 -- a client of which nothing was read
-abbrev pub unread : ClientRow → Client
+abbrev pub unread : SeenClient → Client
 unread r = record { before = r; after = r; octets = []; handed = [] }
 
-is_unread : (limit : ℕ) (r : ClientRow) → IsClient limit (unread r)
+is_unread : (limit : ℕ) (r : SeenClient) → IsClient limit (unread r)
 is_unread limit r = record {
   moved = record { consumed = Consumes-nil r.left; recorded = Appends-nil r.taken };
   within = omega arith;
@@ -36,16 +36,16 @@ is_unread limit r = record {
   refused = inl refl;
 }
 
-all_unread : (limit : ℕ) (rows : List ClientRow) → All (IsClient limit) (map unread rows)
+all_unread : (limit : ℕ) (rows : List SeenClient) → All (IsClient limit) (map unread rows)
 all_unread limit [] = All-nil (IsClient limit)
 all_unread limit (r ∷ rows) = All-cons (IsClient limit) (unread r) (map unread rows) (is_unread limit r) (all_unread limit rows)
 
-same_rows : (f : Client → ClientRow) → ((r : ClientRow) → f (unread r) ≡ r) → (rows : List ClientRow) → map f (map unread rows) ≡ rows
+same_rows : (f : Client → SeenClient) → ((r : SeenClient) → f (unread r) ≡ r) → (rows : List SeenClient) → map f (map unread rows) ≡ rows
 same_rows f same [] = refl
 same_rows f same (r ∷ rows) = λ i. same r i ∷ same_rows f same rows i
 
 -- nothing is an interleaving of empty lists
-none_merged : (rows : List ClientRow) → IsInterleaving (map handed_of (map unread rows)) []
+none_merged : (rows : List SeenClient) → IsInterleaving (map handed_of (map unread rows)) []
 none_merged rows = record {
   names = row_of 1 (length rows);
   apart = λ n. (row_once (length rows) n).0;
@@ -55,11 +55,11 @@ none_merged rows = record {
   known = All-nil (λ (x : ℕ × Command). 1 ≤ times x.0 (row_of 1 (length rows)));
 }
   where
-    by : (a : ℕ) (rs : List ClientRow) → map (λ n. of_name n []) (row_of a (length rs)) ≡ map handed_of (map unread rs)
+    by : (a : ℕ) (rs : List SeenClient) → map (λ n. of_name n []) (row_of a (length rs)) ≡ map handed_of (map unread rs)
     by a [] = refl
     by a (r ∷ rs) = ap (λ l. [] ∷ l) (by (suc a) rs)
 
-module _ (g : Config) (start : Start) (name : Option (List ℕ)) (limit many : ℕ) (s t : Seen) (desk : Type 0) (rows : List ClientRow) where
+module _ (g : Config) (start : Start) (name : Option (List ℕ)) (limit many : ℕ) (s t : Seen) (desk : Type 0) (rows : List SeenClient) where
   pub unopened : (begun : Bool) (status : Status) → (status ≢ OutOfMemory → AreSettings g) → t.written ≡ s.written → t.told ≡ option_map (started begun start) s.told → status ≢ Done
       → IsCaused status limit (map unread rows) 0 false s t desk
       → ((file : List ℕ) → name ≡ Some file → status ≢ OutOfMemory → ¬ Rose s.record_faults t.record_faults → Holds g file [] s t)

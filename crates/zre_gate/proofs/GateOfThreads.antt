@@ -43,16 +43,16 @@ use Rattle.zre_console.proofs.SecondCaller.{asked_few, asker_put}
 use Rattle.zre_console.proofs.NodeThread as living
 use Rattle.zre_console.proofs.Popped.{all_under}
 use Rattle.zre_console.proofs.Parts as parts
-use Rattle.zre_gate.specs.Clients.{ClientRow, Served, IsServed, put_for_all}
+use Rattle.zre_gate.specs.Clients.{SeenClient, Served, IsServed, put_for_all}
 use Rattle.zre_gate.specs.Clients as clients
 use Rattle.zre_gate.specs.Gate.{Client, IsClient, IsWhole, IsFree, IsLong, IsCaused, Merged, HasServed, IsGate, before_of, after_of, handed_of}
 use Rattle.zre_gate.specs.Gathering.{IsWell, IsOwnEnd, Gathers, Closes}
 use Rattle.zre_gate.specs.ClientLists as client_lists
 use Rattle.zre_gate.specs.Interleaving.{IsInterleaving}
 use Rattle.zre_gate.specs.ClientLists.{NewClient, number_of, new_client_of}
-use Rattle.zre_gate.proofs.Answering.{nat_prop}
-use Rattle.zre_gate.proofs.Clients.{client_for, plain_commands, is_client, is_free, is_whole, is_long}
-use Rattle.zre_gate.proofs.Merged.{num, IsPlain, its_named, quit_split, quits_front, map_split, nothing_mapped, named_front, is_interleaved, named_all, none_quit, all_last}
+use Rattle.zre_gate.proofs.ClientAnswers.{nat_prop}
+use Rattle.zre_gate.proofs.ServedClients.{client_for, plain_commands, is_client, is_free, is_whole, is_long}
+use Rattle.zre_gate.proofs.InterleavedCommands.{num, IsPlain, its_named, quit_split, quits_front, map_split, nothing_mapped, named_front, is_interleaved, named_all, none_quit, all_last}
 
 -- ---- lists of clients
 
@@ -71,7 +71,7 @@ module _ (g : Config) (start : Start) (name : Option (List ℕ)) (keep : Bool) (
     (n : Node) (how : Ending) (looked looked' : Bool) (actor actor' : ActorPass)
     (w : IsWork g [] keep limit (scene u.told looked u.world_faults u.kept u.record_faults actor) (scene t.told looked' t.world_faults t.kept t.record_faults actor') n how)
     (named : Keeps u.named t.named) (none_popped : popped_by actor ≡ []) (none_raised : raised_by actor ≡ [])
-    (new_clients : List NewClient) (afters : List ClientRow) (closer closer' : CallerPass) (close : Status)
+    (new_clients : List NewClient) (afters : List SeenClient) (closer closer' : CallerPass) (close : Status)
     (asker asker' : CallerPass) (refused : Bool) (taker taker' : TakerPass) (broke : Option NextFault)
     (d : HasPrinted (asker_of asker refused) taker taker' asker' broke u.written t.written)
     (write_rose : broke ≡ Some fault.Failed → Rose u.write_faults t.write_faults) (start_rose : refused ≡ true → Rose u.refusals t.refusals)

@@ -7,10 +7,10 @@ use Rattle.std.proofs.lemmas.List.Elements.{All-head, All-tail}
 use Rattle.zre_actor.specs.declared.passes.Pipes.{Pipes}
 use Rattle.zre_console.specs.declared.places.CallerArgs.{CallerArgs}
 use Rattle.zre_console.specs.Tables.{AreCallerArgs}
-use Rattle.zre_gate.specs.Clients.{ClientRow}
+use Rattle.zre_gate.specs.Clients.{SeenClient}
 use Rattle.zre_gate.specs.ClientLists.{ClientList, client_list_of, new_client_at, new_clients_of, IsNewClient}
 use Rattle.zre_gate.specs.Tables.{caller_number}
-use Rattle.zre_gate.proofs.Places.{new_client_there}
+use Rattle.zre_gate.proofs.ClientPlaces.{new_client_there}
 
 -- one amid others
 amid : {X : Type 0} (P : X → Type 0) (front rest : List X) (x : X) → All P (front ++ x ∷ rest) → P x
@@ -22,7 +22,7 @@ pub args_among : (pipes : Pipes) (all_args front rest : List CallerArgs) (caller
 args_among pipes all_args front rest caller are of_args = amid (AreCallerArgs pipes) front rest caller (subst (All (AreCallerArgs pipes)) of_args are)
 
 -- the client at a place is a new_client of the client_list
-pub started_client : {C : Type 0} (look : C → ClientRow) (client_list : Option ClientList) (pipes : Pipes) (limit : ℕ) (all_args front rest : List CallerArgs) (caller : CallerArgs) (clients before after : List C) (x : C) (place : ℕ)
+pub started_client : {C : Type 0} (look : C → SeenClient) (client_list : Option ClientList) (pipes : Pipes) (limit : ℕ) (all_args front rest : List CallerArgs) (caller : CallerArgs) (clients before after : List C) (x : C) (place : ℕ)
     → All (AreCallerArgs pipes) all_args → client_list ≡ Some (client_list_of pipes limit (map caller_number all_args) (map look clients))
     → all_args ≡ front ++ caller ∷ rest → clients ≡ before ++ x ∷ after → length front ≡ place → length before ≡ place
     → IsNewClient client_list (arc_value caller.pipes) limit place caller.pass (look x)

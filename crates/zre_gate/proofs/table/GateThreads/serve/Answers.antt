@@ -19,23 +19,23 @@ use Rattle.zre_console.proofs.First.{below_self, first_of_all}
 use Rattle.zre_console.proofs.LeastStatus.{memory_isnt, thread_isnt}
 use Rattle.zre_console.proofs.SecondCaller.{asker_ended}
 use Rattle.zre_console.proofs.Unstarted.{head_only}
-use Rattle.zre_gate.specs.Clients.{ClientRow, row}
+use Rattle.zre_gate.specs.Clients.{SeenClient, seen_client}
 use Rattle.zre_gate.specs.Gate.{IsGate, seen_beside}
 use Rattle.zre_gate.specs.ClientLists.{client_list_of, new_clients_of}
 use Rattle.zre_gate.specs.Tables.{caller_number}
-use Rattle.zre_gate.proofs.Holding.{gated}
-use Rattle.zre_gate.proofs.Places.{new_clients_before, new_clients_length, new_clients_numbers}
-use Rattle.zre_gate.proofs.Answering.{nat_prop}
-use Rattle.zre_gate.proofs.Gathered.{closed_ended, same_client_list}
-use Rattle.zre_gate.proofs.Unopened.{unopened}
-use Rattle.zre_gate.proofs.table.GateTable.serve.Goals as goal
+use Rattle.zre_gate.proofs.GateOfThreads.{gated}
+use Rattle.zre_gate.proofs.ClientPlaces.{new_clients_before, new_clients_length, new_clients_numbers}
+use Rattle.zre_gate.proofs.ClientAnswers.{nat_prop}
+use Rattle.zre_gate.proofs.GatheredClients.{closed_ended, same_client_list}
+use Rattle.zre_gate.proofs.UnstartedGate.{unopened}
+use Rattle.zre_gate.proofs.table.GateThreads.serve.Goals as goal
 
 -- no memory for the channels
 pub returns-in_default-clause-gate : goal.returns-in_default-clause-gate
 returns-in_default-clause-gate g c = λ f start name s before after stands p. (
     let desk = Rose before after in
     let w = g.W.World in let o = g.O.Sink in let r = g.R.Recorder in let a = c.args in
-    let rows = map (row g.C.Source.left g.C.Source.taken g.C.Source.faults g.C.Source.refused) a.clients.items in
+    let rows = map (seen_client g.C.Source.left g.C.Source.taken g.C.Source.faults g.C.Source.refused) a.clients.items in
     unopened f start name a.work.limit (length a.clients.items) s
     (seen_beside (w.told a.work.world) (w.faults a.work.world) (o.written a.out.now) (o.faults a.out.now) (r.kept a.work.rec) (r.named a.work.rec) (r.faults a.work.rec) (g.P.Spawner.faults a.spawner.now))
     desk rows true OutOfMemory (λ _. p.are_settings) (ap (λ x. x.written) p.same) p.told memory_isnt tt (λ file is isnt still. absurd (isnt refl)))
@@ -45,7 +45,7 @@ pub returns-in-Err-clause-gate : goal.returns-in-Err-clause-gate
 returns-in-Err-clause-gate g c = λ f start name s before after stands p. (
     let desk = Rose before after in
     let w = g.W.World in let o = g.O.Sink in let r = g.R.Recorder in let a = c.args in
-    let rows = map (row g.C.Source.left g.C.Source.taken g.C.Source.faults g.C.Source.refused) a.clients.items in
+    let rows = map (seen_client g.C.Source.left g.C.Source.taken g.C.Source.faults g.C.Source.refused) a.clients.items in
     let back = c.in-Err.ensures.refused in
     let world = c.in-Err.world in let rec_ = c.in-Err.rec in
     let kept = ap (λ x. r.kept x.1) back in
@@ -62,8 +62,8 @@ returns-in-Err-clause-gate g c = λ f start name s before after stands p. (
 pub returns-clause-gate : goal.returns-clause-gate
 returns-clause-gate g c = λ f start name s before after stands p. (
     let desk = Rose before after in
-    let w = g.W.World in let o = g.O.Sink in let r = g.R.Recorder in let a = c.args in let l = c.requires.laid in
-    let look = row g.C.Source.left g.C.Source.taken g.C.Source.faults g.C.Source.refused in
+    let w = g.W.World in let o = g.O.Sink in let r = g.R.Recorder in let a = c.args in let l = c.requires.unused in
+    let look = seen_client g.C.Source.left g.C.Source.taken g.C.Source.faults g.C.Source.refused in
     let rows = map look a.clients.items in
     let numbers = map caller_number a.self.all_args.items in
     let even = length-map a.self.all_args.items caller_number ∙ l.many_args ∙ sym (length-map a.clients.items look) in
@@ -77,7 +77,7 @@ returns-clause-gate g c = λ f start name s before after stands p. (
     (scene (w.told out.world) (w.looked out.world) (w.faults out.world) (r.kept out.rec) (r.faults out.rec) out.pass) out.node out.ending) began (means.6 f []) in
     let rose : told.result.refused ≡ true → Rose (g.P.Spawner.faults a.spawner.now) (g.P.Spawner.faults told.new.spawner) = λ is. ⊎_elim
     (λ before. (let h = client_threads.ensures.refused before in omega (arith, h, c.in-Ok-start_node.ensures.later, told.ensures.starts)))
-    (λ after. (let h = after in omega (arith, h, c.in-Ok-start_node.ensures.later, client_threads.ensures.later))) (told.ensures.refused is) in
+    (λ after. (let h = after in omega (arith, h, c.in-Ok-start_node.ensures.later, client_threads.ensures.faults))) (told.ensures.refused is) in
     let held = gated f start name a.work.keep a.work.limit (length a.clients.items) s u t p out.node out.ending (w.looked a.work.world) (w.looked out.world) a.self.base.node_args.pass out.pass (work stands)
     (subst (λ j. Keeps (r.named j.4) (r.named out.rec)) began means.5) l.base.node_args.none_popped l.base.node_args.none_raised
     new_clients (map look done.input.items) a.self.base.others.last.pass done.pass done.status
@@ -85,7 +85,7 @@ returns-clause-gate g c = λ f start name s before after stands p. (
     told.ensures.failed rose l.base.none_taken l.base.last.2 l.base.new_asker
     (λ m. subst (λ ns. times m (number a.self.base.others.last.pass ∷ number a.self.base.others.printer.asker ∷ ns) ≤ 1) (sym (new_clients_numbers numbers rows even)) (l.apart m))
     c.settle.ensures.fronts c.settle.ensures.ended c.settle.ensures.taken desk (new_clients_length numbers rows even ∙ length-map a.clients.items look) close in
-    subst (λ (x : Seen × List ClientRow × List ClientRow × Status). IsGate f start name a.work.limit (length a.clients.items) s x.0 desk x.1 x.2 x.3)
+    subst (λ (x : Seen × List SeenClient × List SeenClient × Status). IsGate f start name a.work.limit (length a.clients.items) s x.0 desk x.1 x.2 x.3)
     (λ k. (
       seen_beside (w.told (sym same.1 k)) (w.faults (sym same.1 k)) (o.written told.new.out) (o.faults told.new.out) (r.kept (sym same.2 k)) (r.named (sym same.2 k)) (r.faults (sym same.2 k)) (g.P.Spawner.faults told.new.spawner),
       new_clients_before numbers rows even k,
@@ -96,8 +96,8 @@ returns-clause-gate g c = λ f start name s before after stands p. (
 
 pub invariant_of-job : goal.invariant_of-job
 invariant_of-job g c =
-    let l = c.requires.laid in let a = c.args in
-    let look = row g.C.Source.left g.C.Source.taken g.C.Source.faults g.C.Source.refused in
+    let l = c.requires.unused in let a = c.args in
+    let look = seen_client g.C.Source.left g.C.Source.taken g.C.Source.faults g.C.Source.refused in
     let rows = map look a.clients.items in
     let numbers = map caller_number a.self.all_args.items in
     let even = length-map a.self.all_args.items caller_number ∙ l.many_args ∙ sym (length-map a.clients.items look) in record {
@@ -106,29 +106,29 @@ invariant_of-job g c =
       many = λ there known. (
           let same = same_client_list g.B.GateName.client_list (client_list_of (arc_value a.self.base.others.printer.pipes) a.work.limit numbers rows) there c.requires.client_list known in
           ap (λ h. length h.new_clients) (sym same) ∙ new_clients_length numbers rows even ∙ length-map a.clients.items look ∙ omega (arith, c.in-Ok.ensures.lines, c.len.ensures, a.clients.ok));
-      room = (l.left_room.0, omega (arith, l.left_room.1, c.in-Ok.ensures.lines, c.len.ensures, a.clients.ok));
+      capacity = (l.capacity.0, omega (arith, l.capacity.1, c.in-Ok.ensures.lines, c.len.ensures, a.clients.ok));
     }
 
 pub settle-requires-clause-pipes : goal.settle-requires-clause-pipes
 settle-requires-clause-pipes g c = (
-  subst (λ ps. IsActorOf ps c.join-worked.result.pass) (ap (λ j. arc_value j.0) c.in-Ok-start_node.ensures.started ∙ c.requires.laid.base.node_args.same ∙ ap (λ p. arc_value p) (sym c.hold_talk-talk.ensures.same)) c.join-worked.ensures.0,
+  subst (λ ps. IsActorOf ps c.join-worked.result.pass) (ap (λ j. arc_value j.0) c.in-Ok-start_node.ensures.started ∙ c.requires.unused.base.node_args.same ∙ ap (λ p. arc_value p) (sym c.hold_talk-talk.ensures.same)) c.join-worked.ensures.0,
   c.hold_talk-talk.ensures.pipes.0,
 )
 
 pub settle-requires-clause-callers : goal.settle-requires-clause-callers
 settle-requires-clause-callers g c = let told = c.hold_talk-talk in
-    (subst (λ ps. IsCallerOf ps told.result.done.pass) (c.requires.laid.base.last.0 ∙ ap (λ p. arc_value p) (sym told.ensures.same)) told.ensures.done.0, told.ensures.pipes.1)
+    (subst (λ ps. IsCallerOf ps told.result.done.pass) (c.requires.unused.base.last.0 ∙ ap (λ p. arc_value p) (sym told.ensures.same)) told.ensures.done.0, told.ensures.pipes.1)
 
 pub settle-requires-clause-back : goal.settle-requires-clause-back
 settle-requires-clause-back g c =
-    let l = c.requires.laid in let told = c.hold_talk-talk in let a = c.args in let o = g.O.Sink in
+    let l = c.requires.unused in let told = c.hold_talk-talk in let a = c.args in let o = g.O.Sink in
     let done = told.result.done in let printed = told.result.printed in
     let numbers = map caller_number a.self.all_args.items in
-    let rows = map (row g.C.Source.left g.C.Source.taken g.C.Source.faults g.C.Source.refused) a.clients.items in
-    let even = length-map a.self.all_args.items caller_number ∙ l.many_args ∙ sym (length-map a.clients.items (row g.C.Source.left g.C.Source.taken g.C.Source.faults g.C.Source.refused)) in
+    let rows = map (seen_client g.C.Source.left g.C.Source.taken g.C.Source.faults g.C.Source.refused) a.clients.items in
+    let even = length-map a.self.all_args.items caller_number ∙ l.many_args ∙ sym (length-map a.clients.items (seen_client g.C.Source.left g.C.Source.taken g.C.Source.faults g.C.Source.refused)) in
     let close = told.ensures.done.1 (client_list_of (arc_value a.self.base.others.printer.pipes) a.work.limit numbers rows) c.requires.client_list in
     let many = how_back done.pass printed.pass (length a.clients.items)
-    (∥∥₁_elim close (nat_prop _ _) (λ k. closed_ended _ _ _ _ _ _ k l.base.last.2.0) ∙ new_clients_length numbers rows even ∙ length-map a.clients.items (row g.C.Source.left g.C.Source.taken g.C.Source.faults g.C.Source.refused))
+    (∥∥₁_elim close (nat_prop _ _) (λ k. closed_ended _ _ _ _ _ _ k l.base.last.2.0) ∙ new_clients_length numbers rows even ∙ length-map a.clients.items (seen_client g.C.Source.left g.C.Source.taken g.C.Source.faults g.C.Source.refused))
     (asker_ended a.self.base.others.printer.asker told.result.refused a.self.base.others.printer.taker printed.taker printed.pass printed.fault (o.written a.out.now) (o.written told.new.out) told.ensures.printed ∙ l.base.new_asker.0) in
     omega (arith, many, ap length (c.join-worked.ensures.1 ∙ ap (λ j. unused_by j.3) c.in-Ok-start_node.ensures.started), l.base.node_args.unused)
 
