@@ -1,7 +1,7 @@
-pub mod Complete
-mod Doing
-pub mod CompleteGate
-pub mod KeyPairs
-pub mod Ledgers
-pub mod Unread
-mod Refusing
+pub mod CommandComplete
+mod CommandOutcomes
+pub mod GateComplete
+pub mod KeysAsNames
+pub mod LedgersKept
+pub mod NoMemoryAtStart
+mod RefusedReads

@@ -93,10 +93,10 @@ is_unread (Some (commands.Plain p)) = is_plain_unread (Some p)
 is_unread (Some (commands.Chat c)) = false
 
 -- it keeps no capture
-abbrev pub is_unkept : Option Command → Bool
-is_unkept None = true
-is_unkept (Some (commands.Plain p)) = true
-is_unkept (Some (commands.Chat c)) = not (is_some c.capture)
+abbrev pub is_unrecorded : Option Command → Bool
+is_unrecorded None = true
+is_unrecorded (Some (commands.Plain p)) = true
+is_unrecorded (Some (commands.Chat c)) = not (is_some c.capture)
 
 -- it is none, or another than `chat`
 abbrev pub is_plain : Option Command → Bool
@@ -121,6 +121,6 @@ pub record Did {I W O R P : Type 0} (v : Views I W O R P) (c : Option Command) (
   pub writes : v.streams.write_faults h.out ≤ v.streams.write_faults h'.out
   -- what isn't used comes back as it was handed in
   pub unread : is_unread c ≡ true → h'.input ≡ h.input
-  pub unkept : is_unkept c ≡ true → h'.rec ≡ h.rec
+  pub unrecorded : is_unrecorded c ≡ true → h'.rec ≡ h.rec
   pub world : is_plain c ≡ true → h'.world ≡ h.world
   pub spawner : is_plain c ≡ true → h'.spawner ≡ h.spawner

@@ -5,7 +5,7 @@ ghost use Rattle.zre_outside.specs.Causes.{Rose};
 ghost use Rattle.zre_console.specs.Statuses.{IsFirst, Yields};
 ghost use Rattle.zre_commands.specs.declared.pump.status.Status.TheVariants.{DeskFault};
 ghost use Rattle.zre_gate.specs.Clients.{seen_client};
-ghost use Rattle.zre_gate.specs.Gate.{seen_beside};
+ghost use Rattle.zre_gate.specs.Gate.{seen_without_clients};
 ghost use Rattle.zre_app.specs.Complete.{CompletesGate};
 ghost use Rattle.zre_app.specs.DoesGate.{DoesGate};
 ghost use Rattle.zre_app.specs.GateWords.{gate_of};
@@ -44,9 +44,9 @@ where
     ensures does { DoesGate (seen_client D.Client.left D.Client.taken D.Client.faults D.Client.refused)
         (gate_of words.now) limit result.status
         (D.told desk) (D.told result.desk)
-        (seen_beside (W.told world) (W.faults world) (O.written out.old) (O.faults out.old)
+        (seen_without_clients (W.told world) (W.faults world) (O.written out.old) (O.faults out.old)
         (R.kept rec) (R.named rec) (R.faults rec) (P.faults spawner.old))
-        (seen_beside (W.told result.world) (W.faults result.world) (O.written out.new) (O.faults out.new)
+        (seen_without_clients (W.told result.world) (W.faults result.world) (O.written out.new) (O.faults out.new)
         (R.kept result.rec) (R.named result.rec) (R.faults result.rec) (P.faults spawner.new))
         (Rose (D.faults desk) (D.faults result.desk)) result.clients.items }
     // Where what is handed in tells the calls that it refused, the status is the first of what occurred.
@@ -56,9 +56,9 @@ where
         × Yields result.status DeskFault (D.refused result.desk ≡ D.refused desk) }
     // Where nothing but clients fails, all is done, or memory ran out.
     ensures complete { CompletesGate (gate_of words.now) limit result.status
-        (seen_beside (W.told world) (W.faults world) (O.written out.old) (O.faults out.old)
+        (seen_without_clients (W.told world) (W.faults world) (O.written out.old) (O.faults out.old)
         (R.kept rec) (R.named rec) (R.faults rec) (P.faults spawner.old))
-        (seen_beside (W.told result.world) (W.faults result.world) (O.written out.new) (O.faults out.new)
+        (seen_without_clients (W.told result.world) (W.faults result.world) (O.written out.new) (O.faults out.new)
         (R.kept result.rec) (R.named result.rec) (R.faults result.rec) (P.faults spawner.new))
         (Rose (D.faults desk) (D.faults result.desk)) }
     // Where the words are no gate, what isn't used comes back as it was handed in.

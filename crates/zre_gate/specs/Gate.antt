@@ -26,9 +26,9 @@ use Rattle.zre_gate.specs.declared.gate.Gate.{Gate}
 use Rattle.zre_gate.specs.Interleaving.{IsInterleaving}
 
 -- what is seen of all that a gate works with but the clients and the desk, at one moment
-abbrev pub seen_beside : (told : Option Log) (worlds : ℕ) (written : Option (List ℕ)) (writes : ℕ)
+abbrev pub seen_without_clients : (told : Option Log) (worlds : ℕ) (written : Option (List ℕ)) (writes : ℕ)
     (kept named : Option (List ℕ)) (records refusals : ℕ) → Seen
-seen_beside told worlds written writes kept named records refusals =
+seen_without_clients told worlds written writes kept named records refusals =
     seen None None 0 told worlds written writes kept named records refusals
 
 -- a client: what it told before and after, the octets that were taken of it, and its commands that were handed in

@@ -9,7 +9,7 @@ ghost use Rattle.zre_commands.specs.declared.pump.status.Status.TheVariants.{Wri
 ghost use Rattle.zre_console.specs.Stages.{HasOpened, Unprepared};
 ghost use Rattle.zre_console.specs.Statuses.{IsFirst, Yields};
 ghost use Rattle.zre_gate.specs.Clients.{seen_client};
-ghost use Rattle.zre_gate.specs.Gate.{HasGated, seen_beside};
+ghost use Rattle.zre_gate.specs.Gate.{HasGated, seen_without_clients};
 ghost use Rattle.zre_gate.specs.Stages.{HasGiven, HasGivenAll};
 ghost use Rattle.zre_gate.specs.Tables.{IsUnused};
 
@@ -83,9 +83,9 @@ impl Gate {
         // What was read, given, done, written and recorded, and the status.
         ensures gate { HasGated (seen_client D.Client.left D.Client.taken D.Client.faults D.Client.refused) self limit
             (D.told desk) (D.told result.desk)
-            (seen_beside (W.told world) (W.faults world) (O.written out.old) (O.faults out.old)
+            (seen_without_clients (W.told world) (W.faults world) (O.written out.old) (O.faults out.old)
             (R.kept rec) (R.named rec) (R.faults rec) (P.faults spawner.old))
-            (seen_beside (W.told result.world) (W.faults result.world) (O.written out.new) (O.faults out.new)
+            (seen_without_clients (W.told result.world) (W.faults result.world) (O.written out.new) (O.faults out.new)
             (R.kept result.rec) (R.named result.rec) (R.faults result.rec) (P.faults spawner.new))
             (Rose (D.faults desk) (D.faults result.desk)) result.clients.items result.status }
         // The status is the first of what occurred.

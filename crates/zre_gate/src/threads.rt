@@ -13,7 +13,7 @@ ghost use Rattle.zre_console.specs.Stages.{Prepared};
 ghost use Rattle.zre_console.specs.Statuses.{IsFirst};
 ghost use Rattle.zre_console.specs.Tables.{AreCallerArgs};
 ghost use Rattle.zre_gate.specs.Clients.{seen_client};
-ghost use Rattle.zre_gate.specs.Gate.{IsGate, seen_beside};
+ghost use Rattle.zre_gate.specs.Gate.{IsGate, seen_without_clients};
 ghost use Rattle.zre_gate.specs.ClientLists.{client_list_of};
 ghost use Rattle.zre_gate.specs.Tables.{IsUnused, caller_number};
 
@@ -201,11 +201,11 @@ impl<C: Source + Send + Drop + 'static> GateThreads<C> {
         // What was read, given, done, written and recorded, and the status.
         ensures gate { (g : ConfigValue) (start : StartValue) (name : Option (List ℕ)) (s : Seen) (before after : ℕ)
             → StandsFor g [] self.base.node_args.node →
-            Prepared g start name work.keep s (seen_beside (W.told work.world) (W.faults work.world)
+            Prepared g start name work.keep s (seen_without_clients (W.told work.world) (W.faults work.world)
             (O.written out.old) (O.faults out.old) (R.kept work.rec) (R.named work.rec) (R.faults work.rec)
             (P.faults spawner.old)) →
             IsGate g start name work.limit (length clients.items) s
-            (seen_beside (W.told result.world) (W.faults result.world) (O.written out.new) (O.faults out.new)
+            (seen_without_clients (W.told result.world) (W.faults result.world) (O.written out.new) (O.faults out.new)
             (R.kept result.rec) (R.named result.rec) (R.faults result.rec) (P.faults spawner.new))
             (Rose before after) (map (seen_client C.left C.taken C.faults C.refused) clients.items)
             (map (seen_client C.left C.taken C.faults C.refused) result.input.items) result.status }

@@ -1,4 +1,4 @@
-use Rattle.zre_app.proofs.CompleteGate.{gate_completes, nothing_gated}
+use Rattle.zre_app.proofs.GateComplete.{gate_completes, nothing_gated}
 use Rattle.zre_app.proofs.gate_call.gate.Goals as goal
 
 pub returns-in-Ok-Some-clause-complete : goal.returns-in-Ok-Some-clause-complete

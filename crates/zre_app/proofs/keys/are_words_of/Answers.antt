@@ -2,7 +2,7 @@ use Rattle.std.proofs.Common.{◌&&◌, ap, sym, ◌∙◌}
 use Rattle.std.specs.List.{list_all}
 use Rattle.std.specs.Prelude.{count_by}
 use Rattle.zre_app.specs.Keys.{begins, may_stand}
-use Rattle.zre_app.proofs.KeyPairs.{words_in}
+use Rattle.zre_app.proofs.KeysAsNames.{words_in}
 use Rattle.zre_app.proofs.keys.are_words_of.Goals as goal
 
 pub returns-then-all_known : goal.returns-then-all_known

@@ -1,4 +1,4 @@
-use Rattle.zre_app.proofs.Refusing.{nothing_read}
+use Rattle.zre_app.proofs.RefusedReads.{nothing_read}
 use Rattle.zre_app.proofs.plain_commands.obey.Goals as goal
 
 pub returns-in-None-clause-refused : goal.returns-in-None-clause-refused

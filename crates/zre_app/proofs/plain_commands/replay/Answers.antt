@@ -1,5 +1,5 @@
-use Rattle.zre_app.proofs.Refusing.{memory_read}
-use Rattle.zre_app.proofs.Unread.{nothing_did_plain}
+use Rattle.zre_app.proofs.RefusedReads.{memory_read}
+use Rattle.zre_app.proofs.NoMemoryAtStart.{nothing_did_plain}
 use Rattle.zre_app.proofs.plain_commands.replay.Goals as goal
 
 pub returns-in-Err : goal.returns-in-Err

@@ -1,9 +1,9 @@
 use Rattle.std.proofs.Common.{true≢false, ◌∙◌, sym}
-use Rattle.zre_app.proofs.Complete.{completes}
-use Rattle.zre_app.proofs.Doing.{plain_did, usage_did, chat_did}
-use Rattle.zre_app.proofs.Ledgers.{keeps_its_ledgers}
-use Rattle.zre_app.proofs.Refusing.{memory_read_so, unread_so, read_so, nothing_first, line_first}
-use Rattle.zre_app.proofs.Unread.{nothing_did}
+use Rattle.zre_app.proofs.CommandComplete.{completes}
+use Rattle.zre_app.proofs.CommandOutcomes.{plain_did, usage_did, chat_did}
+use Rattle.zre_app.proofs.LedgersKept.{keeps_its_ledgers}
+use Rattle.zre_app.proofs.RefusedReads.{memory_read_so, unread_so, read_so, nothing_first, line_first}
+use Rattle.zre_app.proofs.NoMemoryAtStart.{nothing_did}
 use Rattle.zre_chat.specs.Views.{handed, stream_views, views}
 use Rattle.zre_app.specs.Words.{command_of}
 use Rattle.zre_app.proofs.top.run.Goals as goal

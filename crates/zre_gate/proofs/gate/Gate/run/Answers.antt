@@ -5,7 +5,7 @@ use Rattle.zre_outside.specs.Causes.{Rose}
 use Rattle.zre_console.proofs.First.{yields_since}
 use Rattle.zre_console.proofs.Unstarted.{head_only, prepared, there}
 use Rattle.zre_gate.specs.Clients.{seen_client}
-use Rattle.zre_gate.specs.Gate.{IsGate, seen_beside}
+use Rattle.zre_gate.specs.Gate.{IsGate, seen_without_clients}
 use Rattle.zre_gate.specs.Tables.{IsUnused}
 use Rattle.zre_gate.proofs.UnstartedGate.{unopened, early}
 use Rattle.zre_gate.proofs.gate.Gate.run.Goals as goal
@@ -15,8 +15,8 @@ returns-in-Err-clause-gate g c =
     let k = g.D.Desk in let w = g.W.World in let o = g.O.Sink in let r = g.R.Recorder in let a = c.args in
     let look = seen_client g.D.Client.Source.left g.D.Client.Source.taken g.D.Client.Source.faults g.D.Client.Source.refused in
     let opened = c.prepare in let n = opened.new.rec in let x = opened.new.world in let d = opened.new.desk in let u = c.in-Err.ensures.refused in let at = opened.ensures.given in
-    let s = seen_beside (w.told a.world) (w.faults a.world) (o.written a.out.now) (o.faults a.out.now) (r.kept a.rec) (r.named a.rec) (r.faults a.rec) (g.P.Spawner.faults a.spawner.now) in
-    let t = seen_beside (w.told x) (w.faults x) (o.written a.out.now) (o.faults a.out.now) (r.kept n) (r.named n) (r.faults n) (g.P.Spawner.faults a.spawner.now) in
+    let s = seen_without_clients (w.told a.world) (w.faults a.world) (o.written a.out.now) (o.faults a.out.now) (r.kept a.rec) (r.named a.rec) (r.faults a.rec) (g.P.Spawner.faults a.spawner.now) in
+    let t = seen_without_clients (w.told x) (w.faults x) (o.written a.out.now) (o.faults a.out.now) (r.kept n) (r.named n) (r.faults n) (g.P.Spawner.faults a.spawner.now) in
     let desk = Rose (k.faults a.desk) (k.faults d) in
     let rows = map look opened.new.clients.items in
     let e = early a.self.config a.self.start a.self.capture a.limit a.self.clients s t desk rows c.in-Err.status (Rose (w.faults a.world) (w.faults x)) (Rose (r.faults a.rec) (r.faults n)) (λ h. h) (λ h. h) u.cause in record {
@@ -39,9 +39,9 @@ returns-in-Ok-clause-gate g c =
     let k = g.D.Desk in let w = g.W.World in let o = g.O.Sink in let r = g.R.Recorder in let a = c.args in let plan = a.self in
     let look = seen_client g.D.Client.Source.left g.D.Client.Source.taken g.D.Client.Source.faults g.D.Client.Source.refused in
     let opened = c.prepare in let n = opened.new.rec in let x = opened.new.world in let served = c.serve-served in let all = c.in-Ok.ensures.all_given in
-    let s = seen_beside (w.told a.world) (w.faults a.world) (o.written a.out.now) (o.faults a.out.now) (r.kept a.rec) (r.named a.rec) (r.faults a.rec) (g.P.Spawner.faults a.spawner.now) in
-    let u = seen_beside (w.told x) (w.faults x) (o.written a.out.now) (o.faults a.out.now) (r.kept n) (r.named n) (r.faults n) (g.P.Spawner.faults a.spawner.now) in
-    let t = seen_beside (w.told served.result.world) (w.faults served.result.world) (o.written served.new.out) (o.faults served.new.out) (r.kept served.result.rec) (r.named served.result.rec) (r.faults served.result.rec) (g.P.Spawner.faults served.new.spawner) in
+    let s = seen_without_clients (w.told a.world) (w.faults a.world) (o.written a.out.now) (o.faults a.out.now) (r.kept a.rec) (r.named a.rec) (r.faults a.rec) (g.P.Spawner.faults a.spawner.now) in
+    let u = seen_without_clients (w.told x) (w.faults x) (o.written a.out.now) (o.faults a.out.now) (r.kept n) (r.named n) (r.faults n) (g.P.Spawner.faults a.spawner.now) in
+    let t = seen_without_clients (w.told served.result.world) (w.faults served.result.world) (o.written served.new.out) (o.faults served.new.out) (r.kept served.result.rec) (r.named served.result.rec) (r.faults served.result.rec) (g.P.Spawner.faults served.new.spawner) in
     let desk = Rose (k.faults a.desk) (k.faults opened.new.desk) in rw (c.ended.ensures) (record {
       given = opened.new.clients.items;
       begun = true;

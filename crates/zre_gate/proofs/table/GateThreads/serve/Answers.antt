@@ -20,7 +20,7 @@ use Rattle.zre_console.proofs.LeastStatus.{memory_isnt, thread_isnt}
 use Rattle.zre_console.proofs.SecondCaller.{asker_ended}
 use Rattle.zre_console.proofs.Unstarted.{head_only}
 use Rattle.zre_gate.specs.Clients.{SeenClient, seen_client}
-use Rattle.zre_gate.specs.Gate.{IsGate, seen_beside}
+use Rattle.zre_gate.specs.Gate.{IsGate, seen_without_clients}
 use Rattle.zre_gate.specs.ClientLists.{client_list_of, new_clients_of}
 use Rattle.zre_gate.specs.Tables.{caller_number}
 use Rattle.zre_gate.proofs.GateOfThreads.{gated}
@@ -37,7 +37,7 @@ returns-in_default-clause-gate g c = λ f start name s before after stands p. (
     let w = g.W.World in let o = g.O.Sink in let r = g.R.Recorder in let a = c.args in
     let rows = map (seen_client g.C.Source.left g.C.Source.taken g.C.Source.faults g.C.Source.refused) a.clients.items in
     unopened f start name a.work.limit (length a.clients.items) s
-    (seen_beside (w.told a.work.world) (w.faults a.work.world) (o.written a.out.now) (o.faults a.out.now) (r.kept a.work.rec) (r.named a.work.rec) (r.faults a.work.rec) (g.P.Spawner.faults a.spawner.now))
+    (seen_without_clients (w.told a.work.world) (w.faults a.work.world) (o.written a.out.now) (o.faults a.out.now) (r.kept a.work.rec) (r.named a.work.rec) (r.faults a.work.rec) (g.P.Spawner.faults a.spawner.now))
     desk rows true OutOfMemory (λ _. p.are_settings) (ap (λ x. x.written) p.same) p.told memory_isnt tt (λ file is isnt still. absurd (isnt refl)))
 
 -- no thread for the node
@@ -51,7 +51,7 @@ returns-in-Err-clause-gate g c = λ f start name s before after stands p. (
     let kept = ap (λ x. r.kept x.1) back in
     let named = ap (λ x. r.named x.1) back in
     unopened f start name a.work.limit (length a.clients.items) s
-    (seen_beside (w.told world) (w.faults world) (o.written a.out.now) (o.faults a.out.now) (r.kept rec_) (r.named rec_) (r.faults rec_) (g.P.Spawner.faults c.start_node.new.spawner))
+    (seen_without_clients (w.told world) (w.faults world) (o.written a.out.now) (o.faults a.out.now) (r.kept rec_) (r.named rec_) (r.faults rec_) (g.P.Spawner.faults c.start_node.new.spawner))
     desk rows true NoThread (λ _. p.are_settings) (ap (λ x. x.written) p.same) (ap (λ x. w.told x.0) back ∙ p.told) thread_isnt
     (subst (λ k. Rose k (g.P.Spawner.faults c.start_node.new.spawner)) (ap (λ x. x.refusals) p.same) c.in-Err.ensures.failed)
     (λ file is isnt still. (
@@ -71,8 +71,8 @@ returns-clause-gate g c = λ f start name s before after stands p. (
     let told = c.hold_talk-talk in let done = told.result.done in let printed = told.result.printed in let client_threads = c.start_clients-client_threads in
     let close = told.ensures.done.1 (client_list_of (arc_value a.self.base.others.printer.pipes) a.work.limit numbers rows) c.requires.client_list in
     let out = c.join-worked.result in let means = c.join-worked.ensures in let began = c.in-Ok-start_node.ensures.started in let same = c.settle.ensures.same in
-    let u = seen_beside (w.told a.work.world) (w.faults a.work.world) (o.written a.out.now) (o.faults a.out.now) (r.kept a.work.rec) (r.named a.work.rec) (r.faults a.work.rec) (g.P.Spawner.faults a.spawner.now) in
-    let t = seen_beside (w.told out.world) (w.faults out.world) (o.written told.new.out) (o.faults told.new.out) (r.kept out.rec) (r.named out.rec) (r.faults out.rec) (g.P.Spawner.faults told.new.spawner) in
+    let u = seen_without_clients (w.told a.work.world) (w.faults a.work.world) (o.written a.out.now) (o.faults a.out.now) (r.kept a.work.rec) (r.named a.work.rec) (r.faults a.work.rec) (g.P.Spawner.faults a.spawner.now) in
+    let t = seen_without_clients (w.told out.world) (w.faults out.world) (o.written told.new.out) (o.faults told.new.out) (r.kept out.rec) (r.named out.rec) (r.faults out.rec) (g.P.Spawner.faults told.new.spawner) in
     let work = subst (λ j. StandsFor f [] j.2 → IsWork f [] j.5 j.6 (scene (w.told j.1) (w.looked j.1) (w.faults j.1) (r.kept j.4) (r.faults j.4) j.3)
     (scene (w.told out.world) (w.looked out.world) (w.faults out.world) (r.kept out.rec) (r.faults out.rec) out.pass) out.node out.ending) began (means.6 f []) in
     let rose : told.result.refused ≡ true → Rose (g.P.Spawner.faults a.spawner.now) (g.P.Spawner.faults told.new.spawner) = λ is. ⊎_elim
@@ -87,7 +87,7 @@ returns-clause-gate g c = λ f start name s before after stands p. (
     c.settle.ensures.fronts c.settle.ensures.ended c.settle.ensures.taken desk (new_clients_length numbers rows even ∙ length-map a.clients.items look) close in
     subst (λ (x : Seen × List SeenClient × List SeenClient × Status). IsGate f start name a.work.limit (length a.clients.items) s x.0 desk x.1 x.2 x.3)
     (λ k. (
-      seen_beside (w.told (sym same.1 k)) (w.faults (sym same.1 k)) (o.written told.new.out) (o.faults told.new.out) (r.kept (sym same.2 k)) (r.named (sym same.2 k)) (r.faults (sym same.2 k)) (g.P.Spawner.faults told.new.spawner),
+      seen_without_clients (w.told (sym same.1 k)) (w.faults (sym same.1 k)) (o.written told.new.out) (o.faults told.new.out) (r.kept (sym same.2 k)) (r.named (sym same.2 k)) (r.faults (sym same.2 k)) (g.P.Spawner.faults told.new.spawner),
       new_clients_before numbers rows even k,
       map look (sym same.0 k).items,
       sym c.settle.ensures.status k,

@@ -59,7 +59,7 @@ nothing_did v c limit h = record {
   reads = omega arith;
   writes = omega arith;
   unread = λ _. refl;
-  unkept = λ _. refl;
+  unrecorded = λ _. refl;
   world = λ _. refl;
   spawner = λ _. refl;
 }

@@ -30,8 +30,8 @@ plain_did v words limit status input input' world out out' rec spawner isnt d =
   where
     by : (p : Option Plain) → DidPlain v.streams p limit status input input' out out'
         → Did v (option_map commands.Plain p) limit status (handed input world out rec spawner) (handed input' world out' rec spawner)
-    by None d = record { does = d.does; reads = d.reads; writes = d.writes; unread = d.unread; unkept = λ _. refl; world = λ _. refl; spawner = λ _. refl }
-    by (Some p) d = record { does = d.does; reads = d.reads; writes = d.writes; unread = d.unread; unkept = λ _. refl; world = λ _. refl; spawner = λ _. refl }
+    by None d = record { does = d.does; reads = d.reads; writes = d.writes; unread = d.unread; unrecorded = λ _. refl; world = λ _. refl; spawner = λ _. refl }
+    by (Some p) d = record { does = d.does; reads = d.reads; writes = d.writes; unread = d.unread; unrecorded = λ _. refl; world = λ _. refl; spawner = λ _. refl }
 
 -- a chat's name, with other words
 pub usage_did : {I W O R P : Type 0} (v : Views I W O R P) (words : List (List ℕ)) (limit : ℕ) (status : Status) (input : I) (world : W) (out out' : O) (rec : R) (spawner : P)
@@ -45,7 +45,7 @@ usage_did v words limit status input world out out' rec spawner is same usage la
       reads = omega arith;
       writes = later;
       unread = λ _. refl;
-      unkept = λ _. refl;
+      unrecorded = λ _. refl;
       world = λ _. refl;
       spawner = λ _. refl;
     })
@@ -56,13 +56,13 @@ pub chat_did : {I W O R P : Type 0} (v : Views I W O R P) (words : List (List �
     → (c.capture ≡ None → h'.rec ≡ h.rec)
     → (v.streams.read_faults h.input ≤ v.streams.read_faults h'.input) × (v.streams.write_faults h.out ≤ v.streams.write_faults h'.out)
     → Did v (command_of words) limit status h h'
-chat_did v words limit status h h' c is same chat unkept later =
+chat_did v words limit status h h' c is same chat unrecorded later =
     subst (λ x. Did v x limit status h h') (sym (chat_is words (Some c) is same)) (record {
       does = chat;
       reads = later.0;
       writes = later.1;
       unread = λ e. absurd (true≢false (sym e));
-      unkept = λ e. unkept (none_named c.capture e);
+      unrecorded = λ e. unrecorded (none_named c.capture e);
       world = λ e. absurd (true≢false (sym e));
       spawner = λ e. absurd (true≢false (sym e));
     })

@@ -16,7 +16,7 @@ use Rattle.zre_gate.proofs.UnstartedGate.{unopened}
 use Rattle.zre_app.specs.Complete.{IsBelow, CompletesGate}
 use Rattle.zre_app.specs.DoesGate.{DoesGate}
 use Rattle.zre_app.specs.Usage.{usage_line}
-use Rattle.zre_app.proofs.Complete.{spared, well_or_short}
+use Rattle.zre_app.proofs.CommandComplete.{spared, well_or_short}
 
 pub gate_completes : (g : Option Gate) (limit : ℕ) (status : Status) (s t : Seen) (desk : Type 0) → CompletesGate g limit status s t desk
 gate_completes None limit status s t desk = tt
