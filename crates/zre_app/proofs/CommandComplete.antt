@@ -5,8 +5,8 @@ use Rattle.zre_commands.specs.declared.pump.status.Status.{Status}
 use Rattle.zre_commands.specs.declared.pump.status.Status.TheVariants.{Done, Usage, BadInput, ReadFault, WriteFault, WorldFault, NoThread, TooLong, OutOfMemory, DeskFault}
 use Rattle.zre_commands.specs.pump.Meaning.{Meaning, KeepsRefusing, whole_text}
 use Rattle.zre_commands.specs.pump.Outcome.{Outcome}
-use Rattle.zre_commands.proofs.Refusing.{show_refuses, follow_refuses}
-use Rattle.zre_records.proofs.Refusing.{capture_refuses, audit_refuses, simulate_refuses}
+use Rattle.zre_commands.proofs.InvalidStaysInvalid.{show_refuses, follow_refuses}
+use Rattle.zre_records.proofs.InvalidStaysInvalid.{capture_refuses, audit_refuses, simulate_refuses}
 use Rattle.zre_console.specs.Lived.{Seen, HasCause}
 use Rattle.zre_capture.specs.declared.format.Format.TheVariants.{First, Second}
 use Rattle.zre_app.specs.declared.command.Command.{Command}

@@ -7,7 +7,7 @@ use Rattle.zre_commands.specs.declared.pump.status.Status.{Status}
 use Rattle.zre_commands.specs.declared.pump.status.Status.TheVariants.{OutOfMemory}
 use Rattle.zre_console.specs.Lived.{Seen}
 use Rattle.zre_console.proofs.LeastStatus.{memory_isnt}
-use Rattle.zre_console.proofs.Unstarted.{none_started}
+use Rattle.zre_console.proofs.EndBeforeStart.{none_started}
 use Rattle.zre_gate.specs.Clients.{SeenClient}
 use Rattle.zre_gate.specs.Gate.{IsGate}
 use Rattle.zre_gate.specs.declared.gate.Gate.{Gate}

@@ -2,7 +2,7 @@
 use Rattle.std.specs.Prelude.{Option, Some}
 use Rattle.zre_capture.specs.Journal.{journal}
 use Rattle.zre_capture.specs.declared.format.Format.TheVariants.{First, Second}
-use Rattle.zre_journal.proofs.Windows.{keeps_ledgers}
+use Rattle.zre_journal.proofs.NearMessages.{keeps_ledgers}
 use Rattle.zre_app.specs.Does.{KeepsItsLedgers}
 use Rattle.zre_app.specs.declared.command.Command.{Command}
 use Rattle.zre_app.specs.declared.command.Command.TheVariants as commands

@@ -6,7 +6,7 @@ use Rattle.zre_commands.specs.pump.Outcome.{Pumped}
 use Rattle.zre_commands.specs.declared.pump.status.Status.TheVariants as statuses
 use Rattle.zre_console.specs.Lived.{Seen}
 use Rattle.zre_console.proofs.LeastStatus.{memory_isnt}
-use Rattle.zre_console.proofs.Unstarted.{none_started}
+use Rattle.zre_console.proofs.EndBeforeStart.{none_started}
 use Rattle.zre_chat.proofs.ChatOfParts.{unstarted}
 use Rattle.zre_app.specs.declared.command.Command.{Command}
 use Rattle.zre_app.specs.declared.command.Command.TheVariants.{Plain, Chat}

@@ -16,7 +16,7 @@ use Rattle.zre_capture.specs.Heads.{AreSettings}
 use Rattle.zre_actor.specs.declared.views.Placed.{Placed}
 use Rattle.zre_actor.specs.Commands.{under, command_of}
 use Rattle.zre_actor.specs.Work.{QuitsLast}
-use Rattle.zre_actor.proofs.Sums.{under-append}
+use Rattle.zre_actor.proofs.SumsOverPasses.{under-append}
 use Rattle.zre_commands.specs.declared.pump.status.Status.{Status}
 use Rattle.zre_commands.specs.declared.pump.status.Status.TheVariants.{Done, WriteFault, WorldFault, OutOfMemory}
 use Rattle.zre_console.specs.lines.Orders.{is_quit, typed, orders}
@@ -27,10 +27,10 @@ use Rattle.zre_console.specs.reader.Reading.{Outcome, BreaksOff}
 use Rattle.zre_console.specs.Lived.{Seen, Holds, started}
 use Rattle.zre_console.specs.Stages.{IsEarly, Unprepared}
 use Rattle.zre_console.specs.Statuses.{of_read}
-use Rattle.zre_console.proofs.Fronts.{map-prefix, quits_through, none_before, breaks_front, breaks_by, breaks_plain, orders_break, quit_front, cut_breaks}
+use Rattle.zre_console.proofs.CommandPrefixes.{map-prefix, quits_through, none_before, breaks_front, breaks_by, breaks_plain, orders_break, quit_front, cut_breaks}
 use Rattle.zre_console.proofs.LeastStatus.{write_isnt, world_isnt, memory_isnt}
-use Rattle.zre_console.proofs.Popped.{all_under, its_own, no_others, commands_under, prefix_nil, TwoAlone, split, alone}
-use Rattle.zre_console.proofs.Unstarted.{head_only, nothing_begins, unlived, unwritten, uncaptured}
+use Rattle.zre_console.proofs.PoppedCommands.{all_under, its_own, no_others, commands_under, prefix_nil, TwoAlone, split, alone}
+use Rattle.zre_console.proofs.EndBeforeStart.{head_only, nothing_begins, unlived, unwritten, uncaptured}
 use Rattle.zre_chat.specs.Chat.{IsChat, IsCaused}
 
 module _ (g : Config) (start : Start) (name : Option (List ℕ)) (limit : ℕ) where

@@ -37,13 +37,13 @@ use Rattle.zre_chat.specs.Chat.{IsChat, IsCaused, HasEnded}
 use Rattle.zre_console.specs.printer.Printing.{HasPrinted}
 use Rattle.zre_console.specs.Stages.{Prepared}
 use Rattle.zre_console.specs.Statuses.{least, of_read, of_print, of_work, of_thread}
-use Rattle.zre_console.proofs.Fronts.{prefix_trans, quits_through, all_front, none_front, short_front, breaks_front, breaks_by}
-use Rattle.zre_console.proofs.Popped.{all_under}
+use Rattle.zre_console.proofs.CommandPrefixes.{prefix_trans, quits_through, all_front, none_front, short_front, breaks_front, breaks_by}
+use Rattle.zre_console.proofs.PoppedCommands.{all_under}
 use Rattle.zre_console.proofs.SecondCaller.{asked_few, asker_put}
-use Rattle.zre_console.proofs.First.{least_holds, rest_holds}
+use Rattle.zre_console.proofs.StatusIsFirstFailure.{least_holds, rest_holds}
 use Rattle.zre_console.proofs.NodeThread as living
-use Rattle.zre_console.proofs.Parts as parts
-use Rattle.zre_console.proofs.Parts.{read_ended}
+use Rattle.zre_console.proofs.StatusOfParts as parts
+use Rattle.zre_console.proofs.StatusOfParts.{read_ended}
 use Rattle.zre_chat.proofs.ChatOfParts.{IsThrough, HasFound, read_orders, read_front, only, most}
 
 module _ (g : Config) (start : Start) (name : Option (List ℕ)) (keep : Bool) (limit : ℕ) (s u t : Seen) (p : Prepared g start name keep s u)

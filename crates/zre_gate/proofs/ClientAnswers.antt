@@ -13,8 +13,8 @@ use Rattle.zre_console.specs.lines.Orders.{typed}
 use Rattle.zre_console.specs.declared.reader.ending.InputEnd.{InputEnd}
 use Rattle.zre_console.specs.declared.reader.ending.InputEnd.TheVariants as end
 use Rattle.zre_console.specs.reader.Reading.{LinesOutcome, HasReadLines, EndsByRefusal}
-use Rattle.zre_console.proofs.lines.Quits.{typed-begin}
-use Rattle.zre_console.proofs.reader.Puts.{puts-none}
+use Rattle.zre_console.proofs.lines.OrdersUpToQuit.{typed-begin}
+use Rattle.zre_console.proofs.reader.PutCommands.{puts-none}
 use Rattle.zre_gate.specs.Clients.{SeenClient}
 use Rattle.zre_gate.specs.ClientLists.{ClientList, IsNewClient, IsAnswer}
 

@@ -3,7 +3,7 @@ use Rattle.std.proofs.Common.{◌≡◌, ℕ, zero, suc, ◌+◌, ◌≤◌, Lis
 use Rattle.std.specs.Prelude.{All}
 use Rattle.std.proofs.lemmas.List.Elements.{All-nil, All-cons, All-weaker}
 use Rattle.zre_actor.specs.Commands.{times}
-use Rattle.zre_actor.proofs.Sums.{is_first}
+use Rattle.zre_actor.proofs.SumsOverPasses.{is_first}
 use Rattle.zre_gate.specs.Clients.{SeenClient}
 use Rattle.zre_gate.specs.ClientLists.{NewClient, new_client, new_client_at, new_clients_of, number_of, before_of}
 

@@ -38,11 +38,11 @@ use Rattle.zre_console.specs.printer.Printing.{HasPrinted}
 use Rattle.zre_console.specs.Lived.{Seen}
 use Rattle.zre_console.specs.Stages.{Prepared}
 use Rattle.zre_console.specs.Statuses.{least, of_print, of_work, of_thread}
-use Rattle.zre_console.proofs.First.{least_holds, rest_holds, isnt_of_parts, rest_of_parts}
+use Rattle.zre_console.proofs.StatusIsFirstFailure.{least_holds, rest_holds, isnt_of_parts, rest_of_parts}
 use Rattle.zre_console.proofs.SecondCaller.{asked_few, asker_put}
 use Rattle.zre_console.proofs.NodeThread as living
-use Rattle.zre_console.proofs.Popped.{all_under}
-use Rattle.zre_console.proofs.Parts as parts
+use Rattle.zre_console.proofs.PoppedCommands.{all_under}
+use Rattle.zre_console.proofs.StatusOfParts as parts
 use Rattle.zre_gate.specs.Clients.{SeenClient, Served, IsServed, put_for_all}
 use Rattle.zre_gate.specs.Clients as clients
 use Rattle.zre_gate.specs.Gate.{Client, IsClient, IsWhole, IsFree, IsLong, IsCaused, Merged, HasServed, IsGate, before_of, after_of, handed_of}

@@ -11,7 +11,7 @@ use Rattle.zre_actor.specs.Passes.{number, ended, put_by}
 use Rattle.zre_console.specs.declared.reader.ending.InputEnd.{InputEnd}
 use Rattle.zre_console.specs.declared.reader.ending.InputEnd.TheVariants as end
 use Rattle.zre_console.specs.reader.Putting as putting
-use Rattle.zre_console.proofs.reader.Puts.{puts-none}
+use Rattle.zre_console.proofs.reader.PutCommands.{puts-none}
 use Rattle.zre_commands.specs.declared.pump.status.Status.{Status}
 use Rattle.zre_commands.specs.declared.pump.status.Status.TheVariants.{Done, TooLong, OutOfMemory}
 use Rattle.zre_console.specs.Statuses.{least}

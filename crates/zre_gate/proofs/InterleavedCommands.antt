@@ -13,11 +13,11 @@ use Rattle.zre_outside.specs.declared.entry.Command.TheVariants.{Quit}
 use Rattle.zre_actor.specs.declared.views.Placed.{Placed}
 use Rattle.zre_actor.specs.Commands.{placed, under, times, command_of}
 use Rattle.zre_actor.specs.Work.{QuitsLast}
-use Rattle.zre_actor.proofs.Sums.{under-append, other_number, is_first, not_first}
+use Rattle.zre_actor.proofs.SumsOverPasses.{under-append, other_number, is_first, not_first}
 use Rattle.zre_console.specs.lines.Orders.{is_quit}
 use Rattle.zre_console.specs.reader.Putting.{IsClose}
-use Rattle.zre_console.proofs.Fronts.{prefix_trans, map-prefix, quit_is}
-use Rattle.zre_console.proofs.Popped.{all_under, its_own, no_others, commands_under, here, not_here}
+use Rattle.zre_console.proofs.CommandPrefixes.{prefix_trans, map-prefix, quit_is}
+use Rattle.zre_console.proofs.PoppedCommands.{all_under, its_own, no_others, commands_under, here, not_here}
 use Rattle.zre_gate.specs.Clients.{Served, put_for, put_for_all}
 use Rattle.zre_gate.specs.Interleaving.{of_name, IsInterleaving}
 

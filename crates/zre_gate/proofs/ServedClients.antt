@@ -12,13 +12,13 @@ use Rattle.zre_outside.specs.declared.entry.Command.TheVariants.{Quit}
 use Rattle.zre_outside.specs.Causes.{Rose}
 use Rattle.zre_outside.specs.Refusals.{Refusals, RefusesNone, RefusesLast}
 use Rattle.zre_console.specs.lines.Orders.{is_quit, before_quit, typed, orders, asked, Begins}
-use Rattle.zre_console.proofs.lines.Quits.{begun-none, none-before, asked-quits, asked-typed, before-none, typed-begin}
+use Rattle.zre_console.proofs.lines.OrdersUpToQuit.{begun-none, none-before, asked-quits, asked-typed, before-none, typed-begin}
 use Rattle.zre_console.specs.declared.reader.ending.InputEnd.{InputEnd}
 use Rattle.zre_console.specs.declared.reader.ending.InputEnd.TheVariants as end
 use Rattle.zre_console.specs.reader.Putting.{IsShort}
 use Rattle.zre_console.specs.reader.Reading.{LinesOutcome, EndsByRefusal}
 use Rattle.zre_commands.specs.declared.pump.status.Status.TheVariants.{Done, TooLong, OutOfMemory}
-use Rattle.zre_console.proofs.Fronts.{prefix_self, prefix_trans, short_front}
+use Rattle.zre_console.proofs.CommandPrefixes.{prefix_self, prefix_trans, short_front}
 use Rattle.zre_gate.specs.Clients.{Served, IsServed, is_over, of_client}
 use Rattle.zre_gate.specs.Gate.{Client, IsClient, IsWhole, IsFree, IsLong}
 

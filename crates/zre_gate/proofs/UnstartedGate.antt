@@ -11,13 +11,13 @@ use Rattle.zre_outside.specs.Causes.{Rose}
 use Rattle.zre_values.specs.declared.settings.Settings.{Settings as Config}
 use Rattle.zre_capture.specs.Heads.{AreSettings}
 use Rattle.zre_actor.specs.Commands.{times, row as row_of}
-use Rattle.zre_actor.proofs.Rows.{row_once}
+use Rattle.zre_actor.proofs.ConsecutiveNumbers.{row_once}
 use Rattle.zre_console.specs.lines.Orders.{asked}
 use Rattle.zre_commands.specs.declared.pump.status.Status.{Status}
 use Rattle.zre_commands.specs.declared.pump.status.Status.TheVariants.{Done, WriteFault, WorldFault, OutOfMemory, DeskFault}
 use Rattle.zre_console.specs.Lived.{Seen, Holds, started}
 use Rattle.zre_console.specs.Stages.{IsEarly}
-use Rattle.zre_console.proofs.Unstarted.{unlived, unwritten, uncaptured}
+use Rattle.zre_console.proofs.EndBeforeStart.{unlived, unwritten, uncaptured}
 use Rattle.zre_gate.specs.Clients.{SeenClient}
 use Rattle.zre_gate.specs.Gate.{Client, IsClient, IsCaused, IsGate, before_of, after_of, handed_of}
 use Rattle.zre_gate.specs.Interleaving.{IsInterleaving, of_name}

@@ -5,7 +5,7 @@ use Rattle.zre_outside.specs.Causes.{Rose}
 use Rattle.zre_capture.specs.Lines.{IsEntry}
 use Rattle.zre_commands.specs.declared.pump.status.Status.{Status}
 use Rattle.zre_commands.specs.declared.pump.status.Status.TheVariants.{Done, OutOfMemory}
-use Rattle.zre_records.proofs.Replayed.{written}
+use Rattle.zre_records.proofs.CapturesAreReplayed.{written}
 use Rattle.zre_console.specs.Lived.{IsSpared}
 use Rattle.zre_console.proofs.LeastStatus.{memory_isnt}
 use Rattle.zre_app.proofs.laws.kept_captures_are_replayed.Goals as goal

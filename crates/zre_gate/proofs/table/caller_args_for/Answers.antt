@@ -5,7 +5,7 @@ use Rattle.std.proofs.lemmas.List.{map-append}
 use Rattle.std.proofs.lemmas.List.Elements.{All-push}
 use Rattle.zre_actor.specs.Commands.{times}
 use Rattle.zre_actor.specs.Passes.{IsCallerOf, IsNew, fresh_of, numbers_of, number}
-use Rattle.zre_actor.proofs.Sums.{times-append}
+use Rattle.zre_actor.proofs.SumsOverPasses.{times-append}
 use Rattle.zre_console.specs.Tables.{AreCallerArgs}
 use Rattle.zre_gate.specs.Tables.{caller_number}
 use Rattle.zre_gate.proofs.table.caller_args_for.Goals as goal

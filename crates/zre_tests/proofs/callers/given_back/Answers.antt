@@ -1,7 +1,7 @@
 use Rattle.std.proofs.Common.{◌∷◌, ◌++◌, [], ap, ◌∙◌, subst, sym, arith}
 use Rattle.std.proofs.lemmas.List.Elements.{All-push}
 use Rattle.zre_actor.specs.Passes.{IsCallerOf, AreCallersOf, how_many}
-use Rattle.zre_actor.proofs.Given.{two_alone}
+use Rattle.zre_actor.proofs.NumbersGivenBack.{two_alone}
 use Rattle.zre_tests.proofs.callers.given_back.Goals as goal
 
 pub returns-clause-pipes : goal.returns-clause-pipes

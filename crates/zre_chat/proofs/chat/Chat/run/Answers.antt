@@ -3,9 +3,9 @@ use Rattle.std.specs.Prelude.{is_some}
 use mathlib.Core.Logic.{inl}
 use Rattle.zre_commands.specs.declared.pump.status.Status.TheVariants.{WriteFault, WorldFault}
 use Rattle.zre_console.specs.Lived.{seen}
-use Rattle.zre_console.proofs.Callers.{two_apart}
-use Rattle.zre_console.proofs.First.{yields_since}
-use Rattle.zre_console.proofs.Unstarted.{prepared, there}
+use Rattle.zre_console.proofs.CallerNumbers.{two_apart}
+use Rattle.zre_console.proofs.StatusIsFirstFailure.{yields_since}
+use Rattle.zre_console.proofs.EndBeforeStart.{prepared, there}
 use Rattle.zre_chat.specs.Chat.{IsChat}
 use Rattle.zre_chat.proofs.ChatOfParts.{unprepared}
 use Rattle.zre_chat.proofs.chat.Chat.run.Goals as goal

@@ -5,11 +5,11 @@ use Rattle.std.specs.Prelude.{option_map}
 use Rattle.std.specs.Io.KnownBytes.{Keeps}
 use Rattle.std.specs.Arc.{arc_value}
 use Rattle.zre_outside.specs.Causes.{Rose}
-use Rattle.zre_outside.proofs.Rising.{rose_since}
+use Rattle.zre_outside.proofs.CountsThatRose.{rose_since}
 use Rattle.zre_node.specs.Journal.{StandsFor}
 use Rattle.zre_actor.specs.Passes.{IsActorOf, IsCallerOf, unused_by}
 use Rattle.zre_actor.specs.Work.{IsWork, scene, is_world_fault, is_record_fault}
-use Rattle.zre_actor.proofs.Given.{two_alone}
+use Rattle.zre_actor.proofs.NumbersGivenBack.{two_alone}
 use Rattle.zre_commands.specs.declared.pump.status.Status.{Status}
 use Rattle.zre_commands.specs.declared.pump.status.Status.TheVariants.{NoThread}
 use Rattle.zre_console.specs.Lived.{Seen, seen}
@@ -17,10 +17,10 @@ use Rattle.zre_chat.specs.Chat.{IsChat}
 use Rattle.zre_console.specs.reader.Reading.{EndsByRefusal}
 use Rattle.zre_console.specs.Statuses.{least, of_read, of_print, of_work, of_thread}
 use Rattle.zre_console.proofs.SecondCaller.{asker_ended}
-use Rattle.zre_console.proofs.First.{below_self, first_of_all, reads_so, thread_unread}
+use Rattle.zre_console.proofs.StatusIsFirstFailure.{below_self, first_of_all, reads_so, thread_unread}
 use Rattle.zre_console.proofs.LeastStatus.{thread_isnt}
 use Rattle.zre_chat.proofs.ChatOfThreads.{talked}
-use Rattle.zre_console.proofs.Unstarted.{head_only}
+use Rattle.zre_console.proofs.EndBeforeStart.{head_only}
 use Rattle.zre_chat.proofs.ChatOfParts.{untalked}
 use Rattle.zre_chat.proofs.threads.ChatThreads.converse.Goals as goal
 

@@ -6,8 +6,8 @@ use Rattle.zre_values.specs.declared.endpoint.Endpoint.{Endpoint}
 use Rattle.zre_outside.specs.Desks.{Register}
 use Rattle.zre_commands.specs.declared.pump.status.Status.TheVariants.{OutOfMemory}
 use Rattle.zre_console.proofs.PreparingFailed.{not_begun, not_entered}
-use Rattle.zre_console.proofs.First.{below_self}
-use Rattle.zre_console.proofs.Unstarted.{none_started}
+use Rattle.zre_console.proofs.StatusIsFirstFailure.{below_self}
+use Rattle.zre_console.proofs.EndBeforeStart.{none_started}
 use Rattle.zre_gate.specs.Gate.{with_clients}
 use Rattle.zre_gate.specs.Stages.{HasGiven}
 use Rattle.zre_gate.proofs.DeskClients.{none_given}

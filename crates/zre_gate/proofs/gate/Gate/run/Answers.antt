@@ -2,8 +2,8 @@ use Rattle.std.proofs.Common.{◌∙◌, true, map, refl, sym, subst}
 use mathlib.Core.Logic.{inl}
 use Rattle.zre_commands.specs.declared.pump.status.Status.TheVariants.{WriteFault, WorldFault}
 use Rattle.zre_outside.specs.Causes.{Rose}
-use Rattle.zre_console.proofs.First.{yields_since}
-use Rattle.zre_console.proofs.Unstarted.{head_only, prepared, there}
+use Rattle.zre_console.proofs.StatusIsFirstFailure.{yields_since}
+use Rattle.zre_console.proofs.EndBeforeStart.{head_only, prepared, there}
 use Rattle.zre_gate.specs.Clients.{seen_client}
 use Rattle.zre_gate.specs.Gate.{IsGate, seen_without_clients}
 use Rattle.zre_gate.specs.Tables.{IsUnused}

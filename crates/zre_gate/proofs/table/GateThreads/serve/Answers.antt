@@ -11,14 +11,14 @@ use Rattle.zre_node.specs.Journal.{StandsFor}
 use Rattle.zre_actor.specs.Commands.{times}
 use Rattle.zre_actor.specs.Passes.{IsActorOf, IsCallerOf, number, unused_by}
 use Rattle.zre_actor.specs.Work.{IsWork, scene, is_world_fault, is_record_fault}
-use Rattle.zre_actor.proofs.Given.{how_back}
+use Rattle.zre_actor.proofs.NumbersGivenBack.{how_back}
 use Rattle.zre_commands.specs.declared.pump.status.Status.{Status}
 use Rattle.zre_commands.specs.declared.pump.status.Status.TheVariants.{NoThread, OutOfMemory}
 use Rattle.zre_console.specs.Lived.{Seen}
-use Rattle.zre_console.proofs.First.{below_self, first_of_all}
+use Rattle.zre_console.proofs.StatusIsFirstFailure.{below_self, first_of_all}
 use Rattle.zre_console.proofs.LeastStatus.{memory_isnt, thread_isnt}
 use Rattle.zre_console.proofs.SecondCaller.{asker_ended}
-use Rattle.zre_console.proofs.Unstarted.{head_only}
+use Rattle.zre_console.proofs.EndBeforeStart.{head_only}
 use Rattle.zre_gate.specs.Clients.{SeenClient, seen_client}
 use Rattle.zre_gate.specs.Gate.{IsGate, seen_without_clients}
 use Rattle.zre_gate.specs.ClientLists.{client_list_of, new_clients_of}
