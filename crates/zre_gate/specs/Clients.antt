@@ -20,8 +20,8 @@ pub record SeenClient : Type 0 where
   pub faults : ℕ
   pub refused : Option Refusals
 
-abbrev pub seen_client : {C : Type 0} (left taken : C → Option (List ℕ)) (faults : C → ℕ) (refused : C → Option Refusals)
-    → C → SeenClient
+abbrev pub seen_client : {C : Type 0} (left taken : C → Option (List ℕ)) (faults : C → ℕ)
+    (refused : C → Option Refusals) → C → SeenClient
 seen_client left taken faults refused c =
     record { left = left c; taken = taken c; faults = faults c; refused = refused c }
 

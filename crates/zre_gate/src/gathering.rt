@@ -148,8 +148,8 @@ where
     requires capacity { (clients.items ≡ []) × (length lines.items ≤ vec_capacity clients) }
     ensures pipes { IsCallerOf pipes.now result.pass }
     // All clients are gathered.
-    ensures gathers { GathersAll B.client_list (map (seen_client C.left C.taken C.faults C.refused) result.clients.items)
-        pass result.pass result.status result.over }
+    ensures gathers { GathersAll B.client_list (map (seen_client C.left C.taken C.faults C.refused)
+        result.clients.items) pass result.pass result.status result.over }
 {
     let mut gathered = GatheredClients {
         clients,
