@@ -118,9 +118,11 @@ impl<R: Net + Clock> Fabric<R> {
         // When it must look.
         ensures look { command ≡ None → is_full self.old.since_look.entries self.old.since_look.commands ≡ true
             → IfOk result (λ t. is_look t ≡ true) }
-        ensures long { command ≡ None → nat_le 65536 self.old.since_look.octets ≡ true → IfOk result (λ t. is_look t ≡ true) }
+        ensures long { command ≡ None → nat_le 65536 self.old.since_look.octets ≡ true
+            → IfOk result (λ t. is_look t ≡ true) }
         // What is counted since the last look.
-        ensures since_look { IfOk result (λ t. (self.new.since_look.entries ≡ entries_after self.old.since_look.entries t)
+        ensures since_look { IfOk result (λ t.
+            (self.new.since_look.entries ≡ entries_after self.old.since_look.entries t)
             × (self.new.since_look.commands ≡ commands_after self.old.since_look.commands command t)) }
         ensures octets { IfOk result (λ t. self.new.since_look.octets ≡ octets_after self.old.since_look.octets t) }
         ensures unchanged { OnErr result (self.new.since_look ≡ self.old.since_look) }
@@ -153,7 +155,8 @@ impl<R: Net + Clock> Fabric<R> {
         // The clock never goes back.
         ensures later { self.old.stopwatch.last ≤ self.new.stopwatch.last }
         // What is counted since the last look.
-        ensures since_look { IfOk result (λ t. (self.new.since_look.entries ≡ entries_after self.old.since_look.entries t)
+        ensures since_look { IfOk result (λ t.
+            (self.new.since_look.entries ≡ entries_after self.old.since_look.entries t)
             × (self.new.since_look.commands ≡ commands_after self.old.since_look.commands (Some command) t)) }
         ensures octets { IfOk result (λ t. self.new.since_look.octets ≡ octets_after self.old.since_look.octets t) }
         ensures unchanged { OnErr result (self.new.since_look ≡ self.old.since_look) }
@@ -183,10 +186,12 @@ impl<R: Net + Clock> Fabric<R> {
         // The clock never goes back.
         ensures later { self.old.stopwatch.last ≤ self.new.stopwatch.last }
         // When it must look.
-        ensures look { is_full self.old.since_look.entries self.old.since_look.commands ≡ true → IfOk result (λ t. is_look t ≡ true) }
+        ensures look { is_full self.old.since_look.entries self.old.since_look.commands ≡ true
+            → IfOk result (λ t. is_look t ≡ true) }
         ensures long { nat_le 65536 self.old.since_look.octets ≡ true → IfOk result (λ t. is_look t ≡ true) }
         // What is counted since the last look.
-        ensures since_look { IfOk result (λ t. (self.new.since_look.entries ≡ entries_after self.old.since_look.entries t)
+        ensures since_look { IfOk result (λ t.
+            (self.new.since_look.entries ≡ entries_after self.old.since_look.entries t)
             × (self.new.since_look.commands ≡ commands_after self.old.since_look.commands None t)) }
         ensures octets { IfOk result (λ t. self.new.since_look.octets ≡ octets_after self.old.since_look.octets t) }
         ensures unchanged { OnErr result (self.new.since_look ≡ self.old.since_look) }

@@ -8,6 +8,7 @@ ghost use Rattle.zre_outside.specs.Causes.{Rose};
 ghost use Rattle.zre_values.specs.declared.settings.Settings.{Settings as ConfigValue};
 ghost use Rattle.zre_node.specs.Journal.{StandsFor};
 ghost use Rattle.zre_actor.specs.declared.passes.Pipes.{Pipes as PipesValue};
+ghost use Rattle.zre_commands.specs.declared.pump.status.Status.TheVariants.{NoThread};
 ghost use Rattle.zre_console.specs.Lived.{Seen};
 ghost use Rattle.zre_console.specs.Stages.{Prepared};
 ghost use Rattle.zre_console.specs.Statuses.{IsFirst};
@@ -174,6 +175,18 @@ fn join_all<J: Task, T: Threads + Copy>(rt: T, running: Vec<Running<J>>) {
     }
 }
 
+// How a gate ended whose node got no thread.
+fn without_thread<C, W, R>(clients: Vec<C>, world: W, rec: R) -> Ended<Vec<C>, W, R>
+    ensures { result ≡ record { status = NoThread; input = clients; world = world; rec = rec } }
+{
+    Ended {
+        status: Status::NoThread,
+        input: clients,
+        world,
+        rec,
+    }
+}
+
 impl<C: Source + Send + Drop + 'static> GateThreads<C> {
     /// Starts the node's thread, one for each client and the closer's, prints, and waits for all of them.
     pub(crate) fn serve<W, O, R, P, T, B>(
@@ -234,14 +247,7 @@ impl<C: Source + Send + Drop + 'static> GateThreads<C> {
         let limit = work.limit;
         let working = match start_node(spawner, node_args, work) {
             Ok(working) => working,
-            Err((world, rec)) => {
-                return Ended {
-                    status: Status::NoThread,
-                    input: clients,
-                    world,
-                    rec,
-                };
-            }
+            Err((world, rec)) => return without_thread(clients, world, rec),
         };
         let (AnswerLines { ins, outs }, running) = room;
         let client_starts = ClientStarts {

@@ -42,7 +42,7 @@ returns-in_default-clause-gate g c = λ f start name s before after stands p. (
 
 -- no thread for the node
 pub returns-in-Err-clause-gate : goal.returns-in-Err-clause-gate
-returns-in-Err-clause-gate g c = λ f start name s before after stands p. (
+returns-in-Err-clause-gate g c = rw (c.without_thread.ensures) (λ f start name s before after stands p. (
     let desk = Rose before after in
     let w = g.W.World in let o = g.O.Sink in let r = g.R.Recorder in let a = c.args in
     let rows = map (seen_client g.C.Source.left g.C.Source.taken g.C.Source.faults g.C.Source.refused) a.clients.items in
@@ -57,7 +57,7 @@ returns-in-Err-clause-gate g c = λ f start name s before after stands p. (
     (λ file is isnt still. (
       head_only f s.kept (r.kept a.work.rec) (r.kept rec_) (p.head_kept file is) kept,
       subst (λ k. Keeps (option_map (λ _. file) s.named) k) (sym named) (p.file_named file is),
-    )))
+    ))))
 
 pub returns-clause-gate : goal.returns-clause-gate
 returns-clause-gate g c = λ f start name s before after stands p. (
@@ -138,12 +138,12 @@ pub returns-in_default-clause-first : goal.returns-in_default-clause-first
 returns-in_default-clause-first g c = record { written = inl refl; recorded = inl refl; given = inl refl; started = inl refl }
 
 pub returns-in-Err-clause-first : goal.returns-in-Err-clause-first
-returns-in-Err-clause-first g c = let back = c.in-Err.ensures.refused in record {
+returns-in-Err-clause-first g c = let back = c.in-Err.ensures.refused in rw (c.without_thread.ensures) (record {
   written = inl refl;
   recorded = inl (ap (λ x. g.R.Recorder.refused x.1) back);
   given = inl (ap (λ x. g.W.World.refused x.0) back);
   started = inr (below_self 7);
-}
+})
 
 pub returns-clause-first : goal.returns-clause-first
 returns-clause-first g c =
