@@ -99,7 +99,7 @@ impl Machine for Follower {
         Ok(())
     }
 
-    #[tactic(auto, using(crate::proofs::follow::Growing::text_grows))]
+    #[tactic(auto, using(crate::proofs::follow::TextIsMonotone::text_grows))]
     fn feed(&mut self, piece: &[u8], out: &mut Octets) -> Result<Going, OutOfMemory> {
         if self.run.spent() {
             return Ok(Going::On);

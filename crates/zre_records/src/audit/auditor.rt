@@ -201,7 +201,7 @@ impl Machine for Auditor {
         Ok(())
     }
 
-    #[tactic(auto, using(crate::proofs::audit::Auditing::stopped_bad))]
+    #[tactic(auto, using(crate::proofs::audit::AuditorAtEnd::stopped_bad))]
     fn feed(&mut self, piece: &[u8], _out: &mut Octets) -> Result<Going, OutOfMemory> {
         self.take(piece)?;
         Ok(self.going())

@@ -43,7 +43,7 @@ impl Machine for HeadReplayer {
         Ok(())
     }
 
-    #[tactic(auto, using(crate::proofs::replay::HeadFeeding::text_grows))]
+    #[tactic(auto, using(crate::proofs::replay::HeadReplayerFedPiece::text_grows))]
     fn feed(&mut self, piece: &[u8], out: &mut Octets) -> Result<Going, OutOfMemory> {
         let entries = self.headed.read(piece)?;
         let emptied = take_if_any(&mut self.headed.made, entries, out)?;

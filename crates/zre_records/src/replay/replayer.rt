@@ -26,7 +26,7 @@ impl Replayer {
     ghost use Rattle.zre_records.specs.replay.Replayer.{Fed, config_of};
 
     /// Expects the head of a capture of a node with these settings, of which no octet has come yet.
-    #[tactic(auto, using(crate::proofs::replay::Pieces::nothing_stopped))]
+    #[tactic(auto, using(crate::proofs::replay::CaptureInPieces::nothing_stopped))]
     pub fn new(alloc: Global, config: Config) -> Result<Self, OutOfMemory>
         requires { is_valid config ≡ true }
         ensures fed { IfOk result (λ r. Fed r []) }
@@ -57,7 +57,7 @@ impl Machine for Replayer {
         Ok(())
     }
 
-    #[tactic(auto, using(crate::proofs::replay::Feeding::text_grows))]
+    #[tactic(auto, using(crate::proofs::replay::ReplayerFedPiece::text_grows))]
     fn feed(&mut self, piece: &[u8], out: &mut Octets) -> Result<Going, OutOfMemory> {
         let entries = self.pieces.read(piece)?;
         let emptied = take_entries(&mut self.node, entries, out)?;

@@ -47,7 +47,7 @@ impl Machine for Upgrader {
         push_head2(out, &self.settings)
     }
 
-    #[tactic(auto, using(crate::proofs::upgrade::Feeding::text_grows))]
+    #[tactic(auto, using(crate::proofs::upgrade::UpgraderFedPiece::text_grows))]
     fn feed(&mut self, piece: &[u8], out: &mut Octets) -> Result<Going, OutOfMemory> {
         let entries = self.pieces.read(piece)?;
         self.before = push_entries(out, self.before, entries.as_slice())?;
