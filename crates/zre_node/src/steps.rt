@@ -78,8 +78,10 @@ impl Tables {
         entry: Entry,
         steps: &mut Steps<L>,
     ) -> Result<(), OutOfMemory>
+        // What the entry brings.
         requires { is_piece entry.input ≡ false }
         ensures took { Takes entry self.old self.new out.old out.new result }
+        // How many octets are looked at.
         ensures once { steps.new ≤ steps.old + octets_of entry.input }
         ensures looks { TakesLooks entry self.old steps.old steps.new result }
     {

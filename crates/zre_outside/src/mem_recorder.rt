@@ -83,7 +83,7 @@ impl Recorder for MemRecorder {
     fn begin(&mut self, name: &str) -> Result<(), NextFault>
         // What is begun.
         ensures begun { self.new.capture.begun ≡ is_ok result }
-        ensures recorded { OnOk result (Some self.new.capture.kept ≡ option_map (λ _. []) (Some self.old.capture.kept)) }
+        ensures emptied { OnOk result (Some self.new.capture.kept ≡ option_map (λ _. []) (Some self.old.capture.kept)) }
         ensures named { OnOk result (Some self.new.capture.named
             ≡ option_map (λ _. name.now) (Some self.old.capture.named)) }
         // A recorder that fails.

@@ -28,7 +28,7 @@ pub trait Recorder {
     fn begin(&mut self, name: &str) -> Result<(), NextFault>
         // What is begun.
         ensures begun { begun self.new ≡ is_ok result }
-        ensures recorded { OnOk result (kept self.new ≡ option_map (λ _. []) (kept self.old)) }
+        ensures emptied { OnOk result (kept self.new ≡ option_map (λ _. []) (kept self.old)) }
         ensures name { OnOk result (named self.new ≡ option_map (λ _. name.now) (named self.old)) }
         // A recorder that fails.
         ensures refused { OnErr result (Keeps (kept self.old) (kept self.new)

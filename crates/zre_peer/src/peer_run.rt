@@ -222,8 +222,10 @@ impl Run {
     // taken. Lack of memory changes nothing.
     #[inline(always)]
     fn settle(&mut self, number: u16, answer: Answer) -> Answer
+        // The answer is given as it is.
         requires { is_spent self.old ≡ false }
         ensures returned { result ≡ answer }
+        // What the run is after it.
         ensures ok { OnOk answer (self.new ≡ record self.old { count = number }) }
         ensures refused { IfErr answer (λ e. e ≢ RunFault.OutOfMemory → self.new ≡ record self.old { spent = true }) }
         ensures unchanged { answer ≡ Err RunFault.OutOfMemory → self.new ≡ self.old }

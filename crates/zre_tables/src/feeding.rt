@@ -23,10 +23,12 @@ fn read<L: Ledger>(
     items: &mut Items,
     steps: &mut Steps<L>,
 ) -> Result<Option<ZmtpFault>, OutOfMemory>
+    // What is read.
     requires { items.old ≡ [] }
     ensures heard { (own : PeerIdValue) (o : List ℕ) → conn.old ≡ conn_after own o →
         IfOk result (λ fault. (conn.new ≡ conn_after own (o ++ bytes.now))
         × (map (λ a. Arrived a) (arrivals_in items.new) ++ fault_said fault ≡ completed own o bytes.now)) }
+    // How many octets are looked at.
     ensures once { steps.new ≤ steps.old + length bytes.now }
     ensures looks { (own : PeerIdValue) (o : List ℕ) → conn.old ≡ conn_after own o →
         Looks steps.old steps.new (held_of conn.old) (held_of conn.new) (length bytes.now) result }

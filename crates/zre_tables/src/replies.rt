@@ -24,11 +24,13 @@ fn hear_reply<L: Ledger>(
     bytes: &[u8],
     steps: &mut Steps<L>,
 ) -> Result<Option<Cause>, OutOfMemory>
+    // What a link takes, and why its peer ends.
     ensures standing { (own : PeerIdValue) (line : List Member) (o : List ℕ) (n : ℕ)
         → link.old ≡ link_after own line true o n →
         IfOk result (λ why. (link.new ≡ link_answering own line true o n bytes.now)
         × (why ≡ cause_by_reply (slow_in own line o n bytes.now) (reply_fault (o ++ bytes.now)))) }
     ensures waiting { link.old.linked ≡ false → IfOk result (λ why. (link.new ≡ link.old) × (why ≡ None)) }
+    // How many octets are looked at.
     ensures once { steps.new ≤ steps.old + length bytes.now }
     ensures looks { Looks steps.old steps.new (held_of link.old.replies) (held_of link.new.replies)
         (length bytes.now) result }

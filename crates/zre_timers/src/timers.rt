@@ -97,7 +97,8 @@ impl Timers {
         // The keys that are due.
         ensures expired { IfOk result (λ due. IsRisingListOf (is_silent_for self.now now expired) due.expired) }
         ensures evasive { IfOk result (λ due. IsRisingListOf
-            (λ key. is_silent_for self.now now evasive key && not (is_silent_for self.now now expired key)) due.evasive) }
+            (λ key. is_silent_for self.now now evasive key && not (is_silent_for self.now now expired key))
+            due.evasive) }
     {
         let Some(latest) = now.checked_sub(evasive) else {
             return Ok(Due {

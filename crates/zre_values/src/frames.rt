@@ -103,7 +103,7 @@ impl Frames {
     pub fn remove(&mut self, i: usize) -> Octets
         requires { i < length self.old }
         ensures value { slice_get self.old i ≡ Some result }
-        ensures rest { self.new ≡ remove self.old i }
+        ensures members { self.new ≡ remove self.old i }
     {
         self.items.remove(i)
     }

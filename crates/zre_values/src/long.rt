@@ -57,7 +57,9 @@ fn make_room(items: &mut Vec<u8>, count: usize, more: usize) -> Result<(), OutOf
 // Writes octets as they are at a place, and gives the place after them.
 #[inline(always)]
 fn write_plain(text: &mut [u8], at: usize, bytes: &[u8]) -> usize
+    // There is room for the octets.
     requires { at + length bytes.now ≤ length text.old }
+    // What is written, and where it ends.
     ensures text { take result text.new ≡ take at text.old ++ bytes.now }
     ensures place { result ≡ at + length bytes.now }
     ensures size { length text.new ≡ length text.old }
@@ -144,8 +146,10 @@ impl Long {
         field: &[u8],
         after: u8,
     ) -> Result<(), OutOfMemory>
+        // Both texts are short.
         requires before { length before.now ≤ CHUNK }
         requires field { length field.now ≤ CHUNK }
+        // What is appended.
         ensures ok { OnOk result (self.new ≡ self.old ++ before.now ++ flat_map quoted_octet field.now ++ after ∷ []) }
         ensures err { OnErr result (self.new ≡ self.old) }
     {

@@ -210,8 +210,10 @@ impl Octets {
         field: &[u8],
         after: u8,
     ) -> Result<(), OutOfMemory>
+        // Both texts are short.
         requires before { length before.now ≤ CHUNK }
         requires field { length field.now ≤ CHUNK }
+        // What is appended.
         ensures ok { OnOk result (self.new ≡ self.old ++ before.now ++ flat_map quoted_octet field.now ++ after ∷ []) }
         ensures err { OnErr result (self.new ≡ self.old) }
     {
@@ -225,8 +227,10 @@ impl Octets {
     #[cold]
     #[inline(never)]
     fn spill_field(&mut self, before: &[u8], field: &[u8], after: u8) -> Result<(), OutOfMemory>
+        // Both texts are short.
         requires before { length before.now ≤ CHUNK }
         requires field { length field.now ≤ CHUNK }
+        // What is appended.
         ensures ok { OnOk result (self.new ≡ self.old ++ before.now ++ flat_map quoted_octet field.now ++ after ∷ []) }
         ensures err { OnErr result (self.new ≡ self.old) }
     {

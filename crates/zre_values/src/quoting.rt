@@ -50,7 +50,9 @@ fn write_octet(text: &mut [u8], at: usize, octet: u8) -> usize
 /// Writes the texts of octets at a place, and gives the place after them.
 #[inline]
 pub(crate) fn write_octets(text: &mut [u8], at: usize, bytes: &[u8]) -> usize
+    // There is room for the longest text of each octet, and one octet more.
     requires { at + 3 * length bytes.now + 1 ≤ length text.old }
+    // What is written, and where it ends.
     ensures text { take result text.new ≡ take at text.old ++ flat_map quoted_octet bytes.now }
     ensures place { result ≤ at + 3 * length bytes.now }
     ensures size { length text.new ≡ length text.old }

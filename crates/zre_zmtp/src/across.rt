@@ -86,12 +86,15 @@ impl Progress {
         first: &mut Octets,
         steps: &mut Steps<L>,
     ) -> Result<(), OutOfMemory>
+        // No frame of the message was kept before.
         requires traffic { self.old.expected ≡ Expected.Traffic }
         requires alone { self.old.opened ≡ [] }
+        // What is kept.
         ensures before { OnOk result
             (before_of self.new ≡ mid_of self.old header_len (self.old.partial.body ++ front.now)) }
         ensures head { OnOk result (self.new.partial.head ≡ []) }
         ensures body { OnOk result (self.new.partial.body ≡ []) }
+        // How many octets are looked at.
         ensures once { steps.new ≤ steps.old + length front.now }
     {
         self.partial.end_in(front, first, steps)?;
@@ -165,11 +168,14 @@ impl Progress {
         bodies: &'a mut Bodies,
         steps: &mut Steps<L>,
     ) -> Taken<'a>
+        // The frame of this header is the first of a message, and ends in the piece.
         requires in_body { IsInBody self.old header }
         requires message { message_test header.flags ≡ true }
         requires more { more_test header.flags ≡ true }
         requires all { header.size ≤ length self.old.partial.body + length piece.now }
+        // What the piece brings.
         ensures taken { IfOk result (λ came. TakesPiece came self.old self.new piece.now) }
+        // How many octets are looked at.
         ensures looks { LooksIfTaken steps.old steps.new (held self.old) (held self.new) (length piece.now) result }
     {
         if self.opened.len() > 0 {
@@ -193,10 +199,13 @@ impl Progress {
         bodies: &'a mut Bodies,
         steps: &mut Steps<L>,
     ) -> Taken<'a>
+        // The piece begins a frame, and holds all of it.
         requires between { IsBetweenFrames self.old }
         requires header { header_of piece.now ≡ Some header }
         requires all { header_len_of piece.now + header.size ≤ length piece.now }
+        // What the piece brings.
         ensures taken { IfOk result (λ came. TakesPiece came self.old self.new piece.now) }
+        // How many octets are looked at.
         ensures looks { LooksIfTaken steps.old steps.new (held self.old) (held self.new) (length piece.now) result }
     {
         if self.opened.len() > 0 || !is_message(header.flags) || !has_more(header.flags) {

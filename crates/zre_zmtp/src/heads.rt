@@ -18,8 +18,10 @@ use std::sync::ledger::Ledger;
 impl Progress {
     // A piece comes that is a part of the header of a frame: it is kept, unless something is wrong with it.
     pub(crate) fn begin_head<'a>(&mut self, piece: &[u8]) -> Came<'a>
+        // The piece begins a frame, and ends in its header.
         requires between { IsBetweenFrames self.old }
         requires short { header_of piece.now ≡ None }
+        // What the piece brings, and how many octets are kept.
         ensures taken { TakesPiece result self.old self.new piece.now }
         ensures held { held self.new ≤ held self.old + length piece.now }
     {

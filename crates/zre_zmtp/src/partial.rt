@@ -69,9 +69,11 @@ impl Partial {
 
     /// A frame begins with a part of its header.
     pub(crate) fn begin_head(&mut self, head: &[u8])
+        // The octets are a part of a header, the first that are known of it.
         requires short { header_of head.now ≡ None }
         requires within { length head.now ≤ header_len head.now }
         requires none { self.old.head ≡ [] }
+        // What is kept.
         ensures head { self.new.head ≡ head.now }
         ensures body { self.new.body ≡ [] }
     {
@@ -85,10 +87,13 @@ impl Partial {
         octets: &[u8],
         steps: &mut Steps<L>,
     ) -> Result<(), OutOfMemory>
+        // The frame is unfinished, also with these octets.
         requires known { IsSome self.old.header }
         requires unfinished { ForSome self.old.header (λ said. length self.old.body + length octets.now < said.size) }
+        // What is kept.
         ensures head { (self.new.head ≡ self.old.head) × (self.new.header ≡ self.old.header) }
         ensures body { OnOk result (self.new.body ≡ self.old.body ++ octets.now) }
+        // How many octets are looked at.
         ensures looks { steps.new ≡ steps.old + length octets.now }
     {
         self.body.add(octets, steps)

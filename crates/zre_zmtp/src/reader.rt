@@ -214,8 +214,10 @@ impl Reader {
     // `pass` of a piece that the message is all of; of others it changes nothing.
     #[inline(always)]
     fn pass_all<'a>(&mut self, piece: &'a [u8]) -> Option<Front<'a>>
+        // What it takes.
         requires { self.old.spent ≡ false }
         ensures passed { IfSome result (λ front. PassesOn self.old self.new front piece.now) }
+        // The message is all of the piece, and nothing is kept before or after it.
         ensures all { IfSome result (λ front. front.len ≡ length piece.now) }
         ensures none { result ≡ None → self.new ≡ self.old }
         ensures holds_nothing { IfSome result (λ front. (kept self.old ≡ 0) × (kept self.new ≡ 0)) }

@@ -99,7 +99,7 @@ impl Progress {
         // What is kept of an unfinished message.
         ensures opened { OnOk result
             (self.new.opened ≡ opened_by self.old.expected self.old.opened header.flags body) }
-        ensures rest { self.new ≡ record self.old { opened = self.new.opened } }
+        ensures others { self.new ≡ record self.old { opened = self.new.opened } }
     {
         if self.expected == Expected::Ready {
             return Ok(Some(said_by_ready(self.alloc, header.size, body.as_slice())?));
@@ -313,7 +313,7 @@ impl Progress {
               end = end;
               what = What.Message (self.old.opened ++ body.now ∷ []);
             } ∷ []) }
-        ensures rest { OnOk result (self.new ≡ record self.old { opened = [] }) }
+        ensures others { OnOk result (self.new ≡ record self.old { opened = [] }) }
         ensures looks { OnOk result (steps.new ≡ steps.old + length body.now) }
         ensures looks_most { steps.new ≤ steps.old + length body.now }
     {

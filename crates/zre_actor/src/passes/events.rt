@@ -50,8 +50,10 @@ impl Pipes {
 
     // Pushes an event, or Last. It waits while the pipe is full.
     pub(super) fn tell<R: Wait + Copy>(&self, rt: R, events: &mut EventPass, message: Told)
+        // The seat is that of the pipe of events, which is open.
         requires pipes { IsSeatAt (sends_on self.now.events_in) events.old }
         requires open { ((view events.old).raises ≡ true) × ((view events.old).ended_by ≡ None) }
+        // What is pushed.
         ensures pipes { IsSeatAt (sends_on self.now.events_in) events.new }
         ensures told { view events.new ≡ sent (view events.old) message }
     {

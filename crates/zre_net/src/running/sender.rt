@@ -1,6 +1,7 @@
 //! A node, and all messages that it has put on its links.
 
-ghost use Rattle.std.specs.Prelude.{◌≡◌, ◌++◌, ◌∷◌, [], List, length, replicate, true, false, is_some, OnOk, IfOk, IfSome};
+ghost use Rattle.std.specs.Prelude.{◌≡◌, ◌++◌, ◌∷◌, [], List, length, replicate, true, false, is_some, OnOk, IfOk};
+ghost use Rattle.std.specs.Prelude.{IfSome};
 ghost use Rattle.zre_outside.specs.declared.entry.Entry.{Entry as EntryValue};
 ghost use Rattle.zre_zmtp.specs.Laws.{handshake as handshake_of};
 ghost use Rattle.zre_zmtp.specs.declared.writing.SocketType.TheVariants.{Dealer};

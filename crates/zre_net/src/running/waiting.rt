@@ -110,9 +110,11 @@ impl Waiting {
 
     /// The next octets, of one part: so many of them at most, and one at least where any wait.
     pub fn take(&mut self, most: u64) -> Result<Bytes, OutOfMemory>
+        // Which octets it gives, and how many.
         ensures next { IfOk result (λ b. b ≡ take (length b) self.old) }
         ensures few { IfOk result (λ b. length b ≤ most) }
         ensures some { 0 < most → HasOctets self.old → IfOk result (λ b. HasOctets b) }
+        // What waits after it.
         ensures dropped { IfOk result (λ b. self.new ≡ drop (length b) self.old) }
     {
         refill(&mut self.front, &mut self.parts);

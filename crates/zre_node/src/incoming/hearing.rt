@@ -77,12 +77,14 @@ impl Tables {
         items: &mut Items,
         steps: &mut Steps<L>,
     ) -> Result<Option<ZmtpFault>, OutOfMemory>
+        // What is read.
         requires { items.old ≡ [] }
         ensures came { (g : Config) (H : List Mark) (e : Entry) → e.at ≡ piece.now.at
             → e.input ≡ input.Piece piece.now.from piece.now.bytes.now → Holds g H self.old →
             IfOk result (λ fault. Holds g (Comes e ∷ H) self.new
             × (at_places g piece.now.from (said_in items.new fault) (Comes e ∷ H)
             ≡ at_places g piece.now.from (newly_completed g.id piece.now.from H (Comes e ∷ H)) (Comes e ∷ H))) }
+        // How many octets are looked at.
         ensures once { steps.new ≤ steps.old + length piece.now.bytes.now }
         ensures looks { (g : Config) (H : List Mark) (e : Entry) →
             e.input ≡ input.Piece piece.now.from piece.now.bytes.now → Holds g H self.old →
