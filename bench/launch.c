@@ -1,11 +1,11 @@
 /* launch SECONDS INPUT PROGRAM WORDS...
  *
- * Runs a program with its input from a file and its output to nothing, and prints what it used: microseconds of processor time
- * (user and system), kilobytes of peak resident memory, and its exit status, or -1 where a signal ended it, such as the one that
- * comes after so many seconds.
+ * Runs a program with its input from a file and its output to nothing, and prints what it used: microseconds of
+ * processor time (user and system), kilobytes of peak resident memory, and its exit status, or -1 where a signal ended
+ * it, such as the one that comes after so many seconds.
  *
- * The peak that the system tells of a process is at least that of the process that it was forked from. So a small program starts
- * it, and not the script, whose interpreter has more memory than what is measured. */
+ * The peak that the system tells of a process is at least that of the process that it was forked from. So a small
+ * program starts it, and not the script, whose interpreter has more memory than what is measured. */
 #include <fcntl.h>
 #include <stdio.h>
 #include <stdlib.h>

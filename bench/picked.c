@@ -1,8 +1,9 @@
 /* picked NAMES DISTINCT MASK
  *
- * Writes a HELLO as `zre follow` reads it, with so many names of groups of eight octets, of which so many are distinct. They are
- * picked to meet in the table of a peer's groups: the 32 bits by which the table finds a name are all zero under MASK, which is
- * hexadecimal. Of these bits the low ones choose a name's place, and the high eight are compared before the names are.
+ * Writes a HELLO as `zre follow` reads it, with so many names of groups of eight octets, of which so many are distinct.
+ * They are picked to meet in the table of a peer's groups: the 32 bits by which the table finds a name are all zero
+ * under MASK, which is hexadecimal. Of these bits the low ones choose a name's place, and the high eight are compared
+ * before the names are.
  *
  *     cc -O2 -o picked picked.c && ./picked 80000 80000 3fff | zre follow id=000102030405060708090A0B0C0D0E0F */
 #include <stdint.h>

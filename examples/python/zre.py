@@ -1,4 +1,5 @@
-"""Stands for the package, so that these examples run before it is installed: takes that of this checkout, where it is one."""
+"""Stands for the package, so that these examples run before it is installed: takes that of this checkout, where it is
+one."""
 import importlib
 import os
 import sys

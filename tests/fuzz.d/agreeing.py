@@ -1,5 +1,5 @@
-"""Whether the nodes of a schedule agree: random schedules with losses, repeats, reorderings, crashes and restarts, and a
-small model that keeps what each node was as it queued each message.
+"""Whether the nodes of a schedule agree: random schedules with losses, repeats, reorderings, crashes and restarts, and
+a small model that keeps what each node was as it queued each message.
 
     python3 tests/fuzz.d/agreeing.py PROGRAM [COUNT [SEED]]
 

@@ -10,7 +10,9 @@ from typing import Any, Callable, Dict, List, Optional, Sequence, Tuple
 
 import made
 from greeter import Greeter
-from lab import BEACONS, FRIEND, NODE, PING, PORT, STRANGERS, Cell, Friend, Program, beacon, hello, node_words, pings, said
+from lab import (
+    BEACONS, FRIEND, NODE, PING, PORT, STRANGERS, Cell, Friend, Program, beacon, hello, node_words, pings, said,
+)
 
 ANN, BEN = "A" * 32, "B" * 32
 Figures = Dict[str, Any]
@@ -23,8 +25,8 @@ def chat(program: str, cell: Cell, which: int, *more: str, quiet: bool = False) 
 
 
 def blocked(program: str, number: int, block: Sequence[int], how: str, seconds: float, watch: float) -> Figures:
-    """Two nodes of which one can't connect to the other at first. When each hears the other's whispers, counted from the end of the
-    block; None: not in the time that is watched."""
+    """Two nodes of which one can't connect to the other at first. When each hears the other's whispers, counted from
+    the end of the block; None: not in the time that is watched."""
     cell = Cell(number)
     nodes: List[Program] = []
     try:
@@ -41,7 +43,8 @@ def blocked(program: str, number: int, block: Sequence[int], how: str, seconds: 
             nodes[1].says(f"whisper {ANN} hello")
             time.sleep(0.1)
             for which, other in enumerate((BEN, ANN)):
-                came = [at for at, line in list(nodes[which].lines) if line.startswith(f"WHISPER {other}") and at >= free]
+                came = [at for at, line in list(nodes[which].lines)
+                        if line.startswith(f"WHISPER {other}") and at >= free]
                 if came and heard[which] is None:
                     heard[which] = came[0] - free
         time.sleep(1)
@@ -58,7 +61,9 @@ def _all_blocked(job: Tuple[str, int, Sequence[int], str, float, float]) -> Figu
     return blocked(*job)
 
 
-def blocked_often(program: str, block: Sequence[int], how: str, seconds: float, times: int, watch: float) -> List[Figures]:
+def blocked_often(
+    program: str, block: Sequence[int], how: str, seconds: float, times: int, watch: float
+) -> List[Figures]:
     """The same so many times, beside each other."""
     base = 1000 * (1 + sum(block)) + int(seconds)
     with multiprocessing.get_context("fork").Pool(times) as pool:
@@ -123,7 +128,8 @@ def _flood(cell: Cell, count: int, identities: bool, ready: Any, stop: Any) -> N
 
 
 def flooded(program: str, cell: Cell, count: int, identities: bool, times: int = 150, most: float = 1000) -> Figures:
-    """What a friend's PING takes beside so many connections at full speed: so many PINGs, in so many seconds at most."""
+    """What a friend's PING takes beside so many connections at full speed: so many PINGs, in so many seconds at
+    most."""
     node = chat(program, cell, 0, quiet=True)
     context = multiprocessing.get_context("fork")
     ready, stop = context.Event(), context.Event()
@@ -151,7 +157,8 @@ def flooded(program: str, cell: Cell, count: int, identities: bool, times: int =
 
 
 def storm(program: str, peer: str, cell: Cell, seconds: int) -> Figures:
-    """A stranger says HELLO with the identity of a peer over libzmq. How often the node enters that peer from then on."""
+    """A stranger says HELLO with the identity of a peer over libzmq. How often the node enters that peer from then
+    on."""
     node = chat(program, cell, 0)
     other = Program(cell, 1, [peer, BEN, FRIEND, str(PORT), "ben", "10.78.255.255"])
     try:
@@ -168,7 +175,8 @@ def storm(program: str, peer: str, cell: Cell, seconds: int) -> Figures:
         enters = [node.count("ENTER", begun + at, begun + at + 1) for at in range(seconds)]
         time.sleep(3)
         told: Figures = {"entered": True, "enters": sum(enters), "most": max(enters), "last": sum(enters[-5:])}
-        told["quiet"] = max([0.0, *(at - begun for at, line in list(node.lines) if at >= begun and line.startswith("ENTER"))])
+        told["quiet"] = max([0.0, *(at - begun for at, line in list(node.lines)
+                                    if at >= begun and line.startswith("ENTER"))])
         told.update(whispers=(other.count("WHISPER", begun), node.count("WHISPER", begun)), of=seconds)
         stranger.close()
         return told
@@ -178,7 +186,8 @@ def storm(program: str, peer: str, cell: Cell, seconds: int) -> Figures:
 
 
 def regreeted(program: str, cell: Cell, seconds: float) -> Figures:
-    """The same of a raw peer that greets anew whenever it is greeted: how often the node enters it, and when for the last time."""
+    """The same of a raw peer that greets anew whenever it is greeted: how often the node enters it, and when for the
+    last time."""
     node = chat(program, cell, 0)
     peer = Greeter(cell, FRIEND, PORT, bytes.fromhex(BEN))
     stranger = None
@@ -241,7 +250,8 @@ def silent_sockets(cell: Cell, count: int = 510) -> Callable[[], None]:
 
 
 def forged_beacons(cell: Cell, rate: float, identities: int = 256, head: float = 10) -> Callable[[], None]:
-    """Beacons of so many identities from one address, so many a second, from some seconds before the call returns on."""
+    """Beacons of so many identities from one address, so many a second, from some seconds before the call returns
+    on."""
     out, stop = cell.udp(STRANGERS[0]), threading.Event()
 
     def send() -> None:
@@ -266,7 +276,8 @@ def forged_beacons(cell: Cell, rate: float, identities: int = 256, head: float =
 
 
 def connected_often(program: str, cell: Cell, count: int, seconds: float) -> Figures:
-    """A stranger opens and closes connections. How many of them the node reads, as it tells of their octets by CLOSED."""
+    """A stranger opens and closes connections. How many of them the node reads, as it tells of their octets by
+    CLOSED."""
     node = chat(program, cell, 0)
     try:
         time.sleep(0.5)
@@ -286,7 +297,8 @@ def connected_often(program: str, cell: Cell, count: int, seconds: float) -> Fig
 
 
 def few_descriptors(program: str, cell: Cell, count: int) -> Tuple[Optional[int], str]:
-    """The status of a node that may have so few descriptors, None where it goes on, and what it says on standard error."""
+    """The status of a node that may have so few descriptors, None where it goes on, and what it says on standard
+    error."""
     words = node_words(program, ANN, NODE, "ann")
     node = Program(cell, 0, ["sh", "-c", f'ulimit -n {count}; exec "$@"', "sh", *words])
     try:
@@ -298,7 +310,8 @@ def few_descriptors(program: str, cell: Cell, count: int) -> Tuple[Optional[int]
 
 
 def _pestered(cell: Cell, seconds: float) -> None:
-    """Strangers at a low rate: garbage, half greetings, connections that stay silent, forged beacons, each some times a second."""
+    """Strangers at a low rate: garbage, half greetings, connections that stay silent, forged beacons, each some times a
+    second."""
     chance, out, end = random.Random(1), cell.udp(STRANGERS[0]), time.monotonic() + seconds
     silent: List[socket.socket] = []
     number = 0

@@ -1,6 +1,6 @@
-"""A raw peer that greets anew whenever it is greeted, as zyre does over libzmq: at a HELLO of a node that it holds for entered
-it forgets that node, closes its connection to it and opens another one, with a HELLO. As libzmq it says nothing but its greeting
-on a connection before the node's greeting came, and HELLO only after the node's READY.
+"""A raw peer that greets anew whenever it is greeted, as zyre does over libzmq: at a HELLO of a node that it holds for
+entered it forgets that node, closes its connection to it and opens another one, with a HELLO. As libzmq it says nothing
+but its greeting on a connection before the node's greeting came, and HELLO only after the node's READY.
 """
 import contextlib
 import socket
@@ -53,7 +53,8 @@ class Greeter:
                 threading.Thread(target=self._hears, args=(link,), daemon=True).start()
 
     def _hears(self, link: socket.socket) -> None:
-        """What the node says on a link: each HELLO is answered by a connection of its own, and the one before is closed."""
+        """What the node says on a link: each HELLO is answered by a connection of its own, and the one before is
+        closed."""
         with link, contextlib.suppress(OSError):
             link.sendall(made.GREETING + ROUTER)
             rest = receive(link, 64)[64:]

@@ -1,8 +1,8 @@
 """A network of two namespaces for tests/hostile and bench/hostile, and a raw peer that lives in one of them.
 
-The node under attack is at 10.78.0.1 in the first namespace. Whoever talks to it, friends and strangers, is in the second one,
-which has many addresses, so that a stranger can come from another address than a friend. Sockets are made by a thread that
-enters a namespace for a moment: a socket stays where it was made.
+The node under attack is at 10.78.0.1 in the first namespace. Whoever talks to it, friends and strangers, is in the
+second one, which has many addresses, so that a stranger can come from another address than a friend. Sockets are made
+by a thread that enters a namespace for a moment: a socket stays where it was made.
 """
 import contextlib
 import ctypes
@@ -35,7 +35,8 @@ class Skipped(Exception):
 
 def must(*words: str) -> None:
     """Runs a command that a namespace needs."""
-    ended = subprocess.run(words, stdin=subprocess.DEVNULL, stdout=subprocess.PIPE, stderr=subprocess.STDOUT, check=False)
+    ended = subprocess.run(words, stdin=subprocess.DEVNULL, stdout=subprocess.PIPE, stderr=subprocess.STDOUT,
+                           check=False)
     if ended.returncode != 0:
         raise Skipped(f"{' '.join(words)}: {ended.stdout.decode(errors='replace').strip()}")
 
@@ -297,8 +298,8 @@ def percentile(values: List[float], part: float) -> float:
 
 
 def pings(friend: Friend, count: int, most: float) -> Dict[str, float]:
-    """The median, the 95th percentile and the maximum of so many answers, in milliseconds, how many didn't come, and how many
-    were asked for: no further one after so many seconds."""
+    """The median, the 95th percentile and the maximum of so many answers, in milliseconds, how many didn't come, and
+    how many were asked for: no further one after so many seconds."""
     lost, end = 0, time.monotonic() + most
     times: List[float] = []
     while len(times) + lost < count and time.monotonic() < end:

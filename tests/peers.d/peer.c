@@ -1,16 +1,18 @@
-/*  A small peer of RFC 36 over libzmq, for tests/peers: what the node says to it goes through a foreign ZMTP and a foreign
- *  reader, and what it says to the node through a foreign writer.
+/*  A small peer of RFC 36 over libzmq, for tests/peers: what the node says to it goes through a foreign ZMTP and a
+ *  foreign reader, and what it says to the node through a foreign writer.
  *
  *      peer ID HOST PORT NAME TO [HEADER=VALUE]..
  *
- *  Its mailbox is a ROUTER with handover; for each peer that it knows it has one DEALER with the identity 01 and its own
- *  UUID. Beacons go and come by plain sockets. It takes lines as `zre chat` does: join GROUP, leave GROUP, shout GROUP
- *  TEXT, whisper ID TEXT, quit; and besides ping ID, and mute, which ends its beacons. It writes the same lines: ENTER,
- *  JOIN, LEAVE, WHISPER, SHOUT, EXIT, STOP; and besides PINGOK ID name. Whatever a node must not do is a line BAD.
+ *  Its mailbox is a ROUTER with handover; for each peer that it knows it has one DEALER with the identity 01 and its
+ *  own UUID. Beacons go and come by plain sockets. It takes lines as `zre chat` does: join GROUP, leave GROUP, shout
+ *  GROUP TEXT, whisper ID TEXT, quit; and besides ping ID, and mute, which ends its beacons. It writes the same lines:
+ *  ENTER, JOIN, LEAVE, WHISPER, SHOUT, EXIT, STOP; and besides PINGOK ID name. Whatever a node must not do is a line
+ *  BAD.
  *
- *  It keeps no deadlines: it forgets a peer by its last beacon, or by a new HELLO. It ends by itself after LIFE seconds, a minute
- *  unless it is compiled with another number; so is HIGH_WATER, how many messages libzmq holds on a connection (0: all), and
- *  BEATS, the milliseconds between heartbeats of libzmq (0: none), for whose answer it waits three times as long.
+ *  It keeps no deadlines: it forgets a peer by its last beacon, or by a new HELLO. It ends by itself after LIFE
+ *  seconds, a minute unless it is compiled with another number; so is HIGH_WATER, how many messages libzmq holds on a
+ *  connection (0: all), and BEATS, the milliseconds between heartbeats of libzmq (0: none), for whose answer it waits
+ *  three times as long.
  */
 #include <arpa/inet.h>
 #include <stdbool.h>
@@ -168,7 +170,8 @@ static void begin(struct peer *p, int command)
 static void send_out(struct peer *p, const char *content)
 {
     if (zmq_send(p->link, out, out_len, ZMQ_DONTWAIT | (content ? ZMQ_SNDMORE : 0)) < 0
-        || (content && zmq_send(p->link, content, strlen(content), ZMQ_DONTWAIT) < 0)) puts("BAD link takes no message");
+        || (content && zmq_send(p->link, content, strlen(content), ZMQ_DONTWAIT) < 0))
+        puts("BAD link takes no message");
 }
 
 static void send_simple(struct peer *p, int command, const struct name *group, bool has_status, const char *content)
@@ -227,7 +230,8 @@ static struct peer *meet(const uint8_t *id, const char *at)
     p->link = zmq_socket(context, ZMQ_DEALER);
     if (!p->link || zmq_setsockopt(p->link, ZMQ_ROUTING_ID, identity, 17)
         || zmq_setsockopt(p->link, ZMQ_SNDHWM, &(int){ HIGH_WATER }, sizeof(int))
-        || zmq_setsockopt(p->link, ZMQ_LINGER, &(int){ 0 }, sizeof(int)) || beat(p->link) || zmq_connect(p->link, at)) give_up(at);
+        || zmq_setsockopt(p->link, ZMQ_LINGER, &(int){ 0 }, sizeof(int))
+        || beat(p->link) || zmq_connect(p->link, at)) give_up(at);
     send_hello(p);
     return p;
 }

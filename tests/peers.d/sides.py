@@ -60,7 +60,8 @@ class Wrong(Exception):
 def quiet(*words: str, timeout: float = 20) -> Tuple[bool, str]:
     """Whether a command ends well, and what it says."""
     try:
-        ended = subprocess.run(words, stdin=subprocess.DEVNULL, stdout=subprocess.PIPE, stderr=subprocess.STDOUT, timeout=timeout)
+        ended = subprocess.run(words, stdin=subprocess.DEVNULL, stdout=subprocess.PIPE, stderr=subprocess.STDOUT,
+                               timeout=timeout)
     except (OSError, subprocess.TimeoutExpired) as why:
         return False, str(why)
     return ended.returncode == 0, ended.stdout.decode(errors="replace").strip()
@@ -116,7 +117,8 @@ def must(*words: str) -> None:
 
 
 class Side:
-    """A program in a namespace: what is put on its input, the lines that it writes, and what it says on standard error."""
+    """A program in a namespace: what is put on its input, the lines that it writes, and what it says on standard
+    error."""
 
     def __init__(self, called: str, namespace: str, words: Sequence[str]) -> None:
         self.called, self.error = called, tempfile.TemporaryFile()
@@ -263,7 +265,8 @@ class Bench:
 
     def ended(self) -> List[str]:
         statuses = [(side.called, side.program.poll(), side.said()) for side in self.sides]
-        return [f"(the {called} has ended, with status {status}) {said}" for called, status, said in statuses if status is not None]
+        return [f"(the {called} has ended, with status {status}) {said}"
+                for called, status, said in statuses if status is not None]
 
     def clear(self) -> None:
         for side in self.sides:

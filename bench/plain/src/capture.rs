@@ -149,11 +149,14 @@ fn behind_command(word: &[u8]) -> Option<&'static [Field]> {
     })
 }
 
-/// The column, from 1, at which a refused line is bad: its first field that isn't as required, or behind its end. Of a line that
-/// is too long those fields count that are whole within the limit.
+/// The column, from 1, at which a refused line is bad: its first field that isn't as required, or behind its end. Of a
+/// line that is too long those fields count that are whole within the limit.
 #[cold]
 pub fn bad_column(line_number: u64, line: &[u8]) -> usize {
-    let mut required: &[Field] = if line_number == 1 { &[Field::Mark, Field::Format] } else { &[Field::Number, Field::Word] };
+    let mut required: &[Field] = match line_number {
+        1 => &[Field::Mark, Field::Format],
+        _ => &[Field::Number, Field::Word],
+    };
     let is_long = line.len() > LINE_OCTETS;
     let line = &line[..line.len().min(LINE_OCTETS + 1)];
     let mut start = 0;

@@ -33,7 +33,8 @@ trait Machine {
     fn may_end(&self) -> bool;
 }
 
-/// Reads the input to its end and writes the lines of each piece. The last line of an input that is refused is its place.
+/// Reads the input to its end and writes the lines of each piece. The last line of an input that is refused is its
+/// place.
 fn pump(mut input: impl Read, mut out: impl Write, mut machine: impl Machine) -> Status {
     let mut lines = Lines::default();
     let mut buffer = vec![0; PIECE];

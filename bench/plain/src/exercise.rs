@@ -147,7 +147,8 @@ pub fn summary(seed: u64, peers: usize, messages: usize) -> String {
 fn text(entries: u64, counts: &Counts) -> String {
     let Counts { enter, join, leave, whisper, shout, exit, content } = counts;
     format!(
-        "entries {entries}\nenter {enter}\njoin {join}\nleave {leave}\nwhisper {whisper}\nshout {shout}\nexit {exit}\ncontent {content}\n"
+        "entries {entries}\nenter {enter}\njoin {join}\nleave {leave}\nwhisper {whisper}\n\
+         shout {shout}\nexit {exit}\ncontent {content}\n"
     )
 }
 
@@ -163,7 +164,8 @@ mod tests {
 
     #[test]
     fn numbers_go_on_behind_65535() {
-        let text = "entries 140004\nenter 1\njoin 17500\nleave 17500\nwhisper 17500\nshout 17500\nexit 1\ncontent 1120000\n";
+        let text = "entries 140004\nenter 1\njoin 17500\nleave 17500\nwhisper 17500\n\
+                    shout 17500\nexit 1\ncontent 1120000\n";
         assert_eq!(summary(1, 1, 70000), text);
     }
 }

@@ -9,8 +9,8 @@ use std::io::{self, Write};
 const LARGE_CONTENT: usize = 1000;
 const LARGE_PIECE: usize = 60_000;
 
-/// Peers of [`shouts`] and of [`ticks`], the shouts after which each has taken what waits for it, the connections that stay without a peer,
-/// and the moment from which on peers are silent.
+/// Peers of [`shouts`] and of [`ticks`], the shouts after which each has taken what waits for it, the connections that
+/// stay without a peer, and the moment from which on peers are silent.
 const PEERS: usize = 256;
 const BATCH: usize = 64;
 const STRANGERS: usize = 256;
@@ -93,8 +93,8 @@ pub fn large_capture(messages: usize, mut out: impl Write) -> io::Result<()> {
     out.flush()
 }
 
-/// A capture of connections of one peer, each with a HELLO of nearly as many octets as a message may have, full of distinct names of groups:
-/// far more than a peer may be in.
+/// A capture of connections of one peer, each with a HELLO of nearly as many octets as a message may have, full of
+/// distinct names of groups: far more than a peer may be in.
 pub fn hellos(messages: usize, mut out: impl Write) -> io::Result<()> {
     out.write_all(b"zre-capture 1\n")?;
     let mut draws = Draws::new(1);
@@ -148,7 +148,8 @@ pub fn shouts(messages: usize, mut out: impl Write) -> io::Result<()> {
     out.flush()
 }
 
-/// A capture of so many ticks with 256 peers that are silent, and as many connections of which only a greeting has come.
+/// A capture of so many ticks with 256 peers that are silent, and as many connections of which only a greeting has
+/// come.
 pub fn ticks(messages: usize, mut out: impl Write) -> io::Result<()> {
     let mut lines = introductions(PEERS);
     for connection in PEERS + 1..=PEERS + STRANGERS {
@@ -228,6 +229,7 @@ mod tests {
         assert_eq!(lines.len(), 256 + 2 * 256 + 256 + 1);
         let octets = made(|out| hellos(3, out));
         let lines = lines_of(|out| replay(settings(), &octets[..], out));
-        assert_eq!(lines, ["IGNORED 1 Limit", "CLOSED 1 Taken", "IGNORED 2 Limit", "CLOSED 2 Taken", "IGNORED 3 Limit", "STOP"]);
+        let due = ["IGNORED 1 Limit", "CLOSED 1 Taken", "IGNORED 2 Limit", "CLOSED 2 Taken", "IGNORED 3 Limit", "STOP"];
+        assert_eq!(lines, due);
     }
 }

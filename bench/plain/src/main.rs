@@ -1,7 +1,8 @@
-//! The work of `zre`'s commands as a plain program in stock Rust, and the makers of the inputs by which both are measured.
+//! The work of `zre`'s commands as a plain program in stock Rust, and the makers of the inputs by which both are
+//! measured.
 //!
-//! The commands and their words are those of `zre`. It checks and refuses the same streams, messages and captures, and writes
-//! the same lines. Nothing of it is proved.
+//! The commands and their words are those of `zre`. It checks and refuses the same streams, messages and captures, and
+//! writes the same lines. Nothing of it is proved.
 
 mod capture;
 mod commands;
@@ -38,7 +39,10 @@ fn run(task: Task) -> Status {
         Task::Follow(id) => commands::follow(id, input, out),
         Task::Show => commands::show(input, out),
         Task::Replay(settings) => commands::replay(settings, input, out),
-        Task::Exercise { seed, peers, messages } => written(out.write_all(exercise::summary(seed, peers, messages).as_bytes())),
+        Task::Exercise { seed, peers, messages } => {
+            let summary = exercise::summary(seed, peers, messages);
+            written(out.write_all(summary.as_bytes()))
+        }
         Task::Make(input) => {
             let out = BufWriter::with_capacity(1 << 20, out);
             written(match input {

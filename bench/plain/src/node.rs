@@ -242,7 +242,8 @@ impl<L: Listener> Node<L> {
             self.listener.tell(Event::Closed { connection: number, why: CloseWhy::TooMany });
             return;
         }
-        let connection = Connection { identity: None, role: Role::Waiting, since: self.clock, reader: Reader::stream() };
+        let reader = Reader::stream();
+        let connection = Connection { identity: None, role: Role::Waiting, since: self.clock, reader };
         self.connections.insert(number, connection);
     }
 

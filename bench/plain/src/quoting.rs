@@ -2,8 +2,8 @@
 
 use crate::Id;
 
-/// For each octet its quoted text and the length of that: those from `!` to `~` stand for themselves but for four, every other is
-/// `%` and two digits.
+/// For each octet its quoted text and the length of that: those from `!` to `~` stand for themselves but for four,
+/// every other is `%` and two digits.
 static QUOTED: [([u8; 3], u8); 256] = quoted_table();
 
 const fn quoted_table() -> [([u8; 3], u8); 256] {
@@ -11,8 +11,8 @@ const fn quoted_table() -> [([u8; 3], u8); 256] {
     let mut table = [([0; 3], 0); 256];
     let mut octet = 0;
     while octet < 256 {
-        table[octet] =
-            if is_plain(octet as u8) { ([octet as u8, 0, 0], 1) } else { ([b'%', digits[octet >> 4], digits[octet & 15]], 3) };
+        let escaped = [b'%', digits[octet >> 4], digits[octet & 15]];
+        table[octet] = if is_plain(octet as u8) { ([octet as u8, 0, 0], 1) } else { (escaped, 3) };
         octet += 1;
     }
     table

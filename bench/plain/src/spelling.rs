@@ -155,8 +155,10 @@ mod tests {
 
     #[test]
     fn messages_have_their_one_spelling() {
-        let hello = Body::Hello { endpoint: "tcp://10.0.0.2:49152", groups: &[], status: 0, name: b"Ann", headers: &[] };
-        assert_eq!(spelled(1, &hello), b"\x00\x28\xaa\xa1\x01\x02\x00\x01\x14tcp://10.0.0.2:49152\0\0\0\0\0\x03Ann\0\0\0\0");
+        let endpoint = "tcp://10.0.0.2:49152";
+        let hello = Body::Hello { endpoint, groups: &[], status: 0, name: b"Ann", headers: &[] };
+        let due = b"\x00\x28\xaa\xa1\x01\x02\x00\x01\x14tcp://10.0.0.2:49152\0\0\0\0\0\x03Ann\0\0\0\0";
+        assert_eq!(spelled(1, &hello), due);
         let join = Body::Join { group: b"chat", status: 1 };
         assert_eq!(spelled(2, &join), b"\x00\x0c\xaa\xa1\x04\x02\x00\x02\x04chat\x01");
         let shout = Body::Shout { group: b"g", content: &[b"hi".to_vec(), vec![]] };

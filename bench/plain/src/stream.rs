@@ -1,7 +1,7 @@
 //! Streams of ZMTP 3 with the NULL mechanism (RFC 23), read in pieces of any size.
 //!
-//! The reader looks at frames where they lie, in the caller's piece. It keeps only what a piece leaves unfinished: the octets
-//! behind the last item. Commands that come between the frames of a message aren't kept with it.
+//! The reader looks at frames where they lie, in the caller's piece. It keeps only what a piece leaves unfinished: the
+//! octets behind the last item. Commands that come between the frames of a message aren't kept with it.
 
 use crate::limits::{COMMAND_OCTETS, MESSAGE_FRAMES, MESSAGE_OCTETS};
 use crate::metadata;
@@ -15,7 +15,8 @@ pub const GREETING: usize = 64;
 const MORE: u8 = 1;
 const LONG: u8 = 2;
 
-/// Why a stream is refused, and the place of the octet or frame that is at fault, counted from the stream's first octet.
+/// Why a stream is refused, and the place of the octet or frame that is at fault, counted from the stream's first
+/// octet.
 #[derive(Clone, Copy, Debug, PartialEq)]
 pub struct Fault {
     pub why: &'static str,
@@ -319,14 +320,18 @@ mod tests {
     use super::*;
     use crate::spelling::{greeting, ready};
 
-    /// The items of a stream that comes in pieces of so many octets: what is read, and the fault or whether it is at rest.
+    /// The items of a stream that comes in pieces of so many octets: what is read, and the fault or whether it is at
+    /// rest.
     fn read(mut reader: Reader, stream: &[u8], size: usize) -> (Vec<Vec<Vec<u8>>>, Result<bool, Fault>) {
         let mut messages = Vec::new();
         for piece in stream.chunks(size) {
             let octets = reader.take_up(piece);
             loop {
                 match reader.next(&octets) {
-                    Ok(Some(Item::Message)) => messages.push(reader.message(&octets).iter().map(<[u8]>::to_vec).collect()),
+                    Ok(Some(Item::Message)) => {
+                        let message = reader.message(&octets);
+                        messages.push(message.iter().map(<[u8]>::to_vec).collect());
+                    }
                     Ok(Some(_)) => {}
                     Ok(None) => break,
                     Err(fault) => return (messages, Err(fault)),

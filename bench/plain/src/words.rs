@@ -96,7 +96,8 @@ fn settings(words: &mut Words<'_>) -> Option<Settings> {
 fn is_valid(settings: &Settings) -> bool {
     let headers = &settings.headers;
     let fits = headers.iter().all(|(name, value)| name.len() <= 255 && value.len() <= 1024);
-    let distinct = headers.iter().enumerate().all(|(at, header)| headers[..at].iter().all(|before| before.0 != header.0));
+    let is_new = |at: usize| headers[..at].iter().all(|before| before.0 != headers[at].0);
+    let distinct = (0..headers.len()).all(is_new);
     let times = 1 <= settings.evasive && settings.evasive <= settings.expired && settings.expired <= 86_400_000;
     settings.name.len() <= 255 && headers.len() <= 256 && fits && distinct && times
 }

@@ -72,9 +72,11 @@ const ENTER: &str = "ENTER ANN tcp://10.0.0.2:49152 %";
 fn a_peer_ends_by_its_messages_and_connections() {
     let last_beacon = format!("900 datagram 10.0.0.2 {}", hex(&beacon(&ANN, 0)));
     let again = format!("300 piece 2 {}{}", handshake(&ANN), hello(&[]));
+    let third = format!("200 piece 1 {}", join(3));
+    let end = ["300 end".to_string(), "400 tick".to_string()];
     let rows: [(&str, Vec<String>, &[&str]); 8] = [
         ("its last beacon", behind_entering([last_beacon]), &[ENTER, "EXIT ANN beacon"]),
-        ("a message out of order", behind_entering([format!("200 piece 1 {}", join(3))]), &[ENTER, "EXIT ANN order 2 3"]),
+        ("a message out of order", behind_entering([third]), &[ENTER, "EXIT ANN order 2 3"]),
         ("a second HELLO", behind_entering([format!("200 piece 1 {}", hello(&[]))]), &[ENTER, "EXIT ANN hello"]),
         (
             "a message in two pieces, and a fault behind it",
@@ -88,7 +90,7 @@ fn a_peer_ends_by_its_messages_and_connections() {
             &[ENTER, "EXIT ANN taken", "CLOSED 1 Taken", ENTER],
         ),
         ("a broken link", behind_entering(["300 unlinked 1".to_string()]), &[ENTER, "EXIT ANN link"]),
-        ("the end", behind_entering(["300 end".to_string(), "400 tick".to_string()]), &[ENTER, "EXIT ANN stop", "STOP"]),
+        ("the end", behind_entering(end), &[ENTER, "EXIT ANN stop", "STOP"]),
     ];
     for (shows, entries, lines) in rows {
         expect(shows, &entries, lines);
@@ -141,13 +143,14 @@ fn a_peer_that_takes_nothing_is_too_slow() {
 #[test]
 fn the_first_message_starts_a_run_or_is_refused() {
     let groups: Vec<Vec<u8>> = (0..1025u16).map(|at| at.to_be_bytes().to_vec()).collect();
-    let nowhere = message(1, &Body::Hello { endpoint: "tcp://host:1", groups: &[], status: 0, name: b"Ann", headers: &[] });
-    let rows = [(join(1), "NotHello"), (hello(&groups), "Limit"), (nowhere, "NoEndpoint")];
+    let nowhere = Body::Hello { endpoint: "tcp://host:1", groups: &[], status: 0, name: b"Ann", headers: &[] };
+    let rows = [(join(1), "NotHello"), (hello(&groups), "Limit"), (message(1, &nowhere), "NoEndpoint")];
     for (first, why) in rows {
         let entries = ["0 opened 1".to_string(), format!("0 piece 1 {}{first}{}", handshake(&ANN), join(2))];
         expect(why, &entries, &[&format!("IGNORED 1 {why}")]);
     }
-    let entries = ["0 opened 1".to_string(), format!("0 piece 1 {}{}", handshake(&ANN), hello(&[b"a".to_vec(), b"a".to_vec()]))];
+    let twice = hello(&[b"a".to_vec(), b"a".to_vec()]);
+    let entries = ["0 opened 1".to_string(), format!("0 piece 1 {}{twice}", handshake(&ANN))];
     expect("a group twice", &entries, &[ENTER, "JOIN ANN a"]);
     let own = ["0 opened 1".to_string(), format!("0 piece 1 {}", handshake(&[0xff; 16]))];
     expect("the node's own identity", &own, &["CLOSED 1 Identity 64"]);

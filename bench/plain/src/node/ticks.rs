@@ -14,8 +14,10 @@ impl<L: Listener> Node<L> {
         for number in self.peers.numbers(|peer| clock - peer.active >= evasive) {
             self.falter(number);
         }
-        let is_stale =
-            |connection: &Connection| !matches!(connection.role, Role::Running { .. }) && clock - connection.since >= expired;
+        let is_stale = |connection: &Connection| {
+            let is_running = matches!(connection.role, Role::Running { .. });
+            !is_running && clock - connection.since >= expired
+        };
         for number in self.connections.numbers(is_stale) {
             self.close(number, Cause::Expired, Some(CloseWhy::Timeout));
         }
